@@ -1,0 +1,134 @@
+-- The double of a Decimal, for the proofs of callers: which case it is, that it is finite, and its sign and size.
+-- What a test says is an equation, as a branch gives it; what holds of a double is under `T`, as the laws of lib.Ieee take it. Assumes nothing.
+use mathlib.Core.Path.{_≡_, refl, sym, ap, ap₂, _∙_, subst}
+use mathlib.Core.Bool.{Bool, true, false, not, _&&_, _||_, cond, true≢false}
+use Prim.Native.Nat.{ℕ, _*_, _^_, _≤_, _<_, zero-le}
+use lib.Dec.{T, leb}
+use lib.IntN.{ℤ, pos, negsuc}
+use lib.Ieee.{Float, fin, binary64, up, down, le, fits, ofBits}
+use lib.Ieee.Fits.{round-fits, cond-fits}
+use lib.Ieee.Scale.{finite}
+use lib.Ieee.Positive.{num, den, positive, between}
+use borrow.Author.Tests.{leb-true, le-leb, lt-leb}
+use Rattle.decimal.specs.declared.Decimal.{Decimal}
+use Rattle.decimal.specs.declared.Converted.the-variants.{Value, ScaleTooLarge}
+use Rattle.decimal.specs.Decimal.{coefficient, isZero, isNegative, isPositive, scaleFits, nearestDouble, plusZero, value, convert}
+use Rattle.decimal.proofs.Zero.{nonzero, negative-is, positive-nonzero, positive-not-negative}
+use Rattle.decimal.proofs.Bounds.{within, at-least, at-most, at-lowest, not-below}
+
+-- the pattern of +0.0, as the code writes it
+pub zero-bits : ofBits binary64 0 ≡ plusZero
+unfolding ofBits
+zero-bits = refl
+
+-- ---- the cases of `value`
+by-tests : (d : Decimal) (z f : Bool) → isZero d ≡ z → leb (d .scale) 28 ≡ f → value d ≡ cond z plusZero (cond f (nearestDouble d) plusZero)
+unfolding value
+by-tests d z f e h = ap₂ (λ (a b : Bool). cond a plusZero (cond b (nearestDouble d) plusZero)) e h
+
+pub zero-value : (d : Decimal) → isZero d ≡ true → value d ≡ plusZero
+zero-value d e = by-tests d true (leb (d .scale) 28) e refl
+
+pub nearest-value : (d : Decimal) → isZero d ≡ false → d .scale ≤ 28 → value d ≡ nearestDouble d
+nearest-value d e h = by-tests d false true e (le-leb (d .scale) 28 h)
+
+pub refused-value : (d : Decimal) → isZero d ≡ false → 28 < d .scale → value d ≡ plusZero
+refused-value d e h = by-tests d false false e (lt-leb (d .scale) 28 h)
+
+-- ---- the cases of `convert`
+pub converted-value : (d : Decimal) → scaleFits d ≡ true → convert d ≡ Value (value d)
+unfolding convert
+converted-value d e = ap (λ (b : Bool). cond b (Value (value d)) ScaleTooLarge) e
+
+pub converted-refused : (d : Decimal) → scaleFits d ≡ false → convert d ≡ ScaleTooLarge
+unfolding convert
+converted-refused d e = ap (λ (b : Bool). cond b (Value (value d)) ScaleTooLarge) e
+
+-- ---- finite, of the Decimal's sign, and from 2 ^ -94 to 2 ^ 96 in size where the Decimal is not zero
+pub record Converts (d : Decimal) : Type 0 where
+  pub m : ℕ
+  pub e : ℤ
+  pub is : value d ≡ fin (isNegative d && scaleFits d) m e
+  pub most : m * up e ≤ 2 ^ 96 * down e
+  pub least : isZero d ≡ false → scaleFits d ≡ true → down e ≤ m * up e * 2 ^ 94
+
+fits-is : (d : Decimal) (z f : Bool) → isZero d ≡ z → leb (d .scale) 28 ≡ f → scaleFits d ≡ z || f
+unfolding scaleFits
+fits-is d z f e h = ap₂ (λ (a b : Bool). a || b) e h
+
+sign-is : (d : Decimal) (z f : Bool) → isZero d ≡ z → leb (d .scale) 28 ≡ f → isNegative d && scaleFits d ≡ (d .negative && not z) && (z || f)
+sign-is d z f e h = ap₂ (λ (a b : Bool). a && b) (negative-is d ∙ ap (λ (a : Bool). d .negative && not a) e) (fits-is d z f e h)
+
+and-false : (b : Bool) → b && false ≡ false
+and-false true = refl
+and-false false = refl
+
+and-true : (b : Bool) → b && true ≡ b
+and-true true = refl
+and-true false = refl
+
+plus-zero : (d : Decimal) → value d ≡ plusZero → isNegative d && scaleFits d ≡ false → (isZero d ≡ false → scaleFits d ≡ true → ⊥) → Converts d
+plus-zero d v s n = record {
+  m = 0;
+  e = pos 0;
+  is = v ∙ ap (λ (b : Bool). fin b 0 (pos 0)) (sym s);
+  most = zero-le;
+  least = λ z f. absurd (n z f);
+}
+
+module _ (d : Decimal) (W : coefficient d < 2 ^ 96) where
+  by-cases : (z f : Bool) → isZero d ≡ z → leb (d .scale) 28 ≡ f → Converts d
+  by-cases true f e h =
+      plus-zero d (zero-value d e) (sign-is d true f e h ∙ ap (λ (b : Bool). b && true) (and-false (d .negative)))
+      (λ z t. true≢false (sym e ∙ z))
+  by-cases false false e h =
+      plus-zero d (by-tests d false false e h) (sign-is d false false e h ∙ and-false (d .negative && true)) (λ z t. true≢false (sym t ∙ fits-is d false false e h))
+  by-cases false true e h =
+      let w = within (coefficient d) (d .scale) (nonzero d e) W (leb-true (d .scale) 28 h) (d .negative) in
+      record {
+        m = w .m;
+        e = w .e;
+        is = by-tests d false true e h ∙ w .is ∙ ap (λ (b : Bool). fin b (w .m) (w .e)) (sym (sign-is d false true e h ∙ and-true (d .negative && true) ∙ and-true (d .negative)));
+        most = w .most;
+        least = λ z t. w .least;
+      }
+
+  pub converts : Converts d
+  converts = by-cases (isZero d) (leb (d .scale) 28) refl refl
+
+  -- ---- the same, one by one
+  pub value-finite : T (finite (value d))
+  value-finite = subst (λ (v : Float). T (finite v)) (sym (converts .is)) tt
+
+  pub value-size : num (value d) ≤ 2 ^ 96 * den (value d)
+  value-size = subst (λ (v : Float). num v ≤ 2 ^ 96 * den v) (sym (converts .is)) (converts .most)
+
+  pub value-most : T (le (value d) (fin false 1 (pos 96)))
+  value-most = subst (λ (v : Float). T (le v (fin false 1 (pos 96)))) (sym (converts .is)) (at-most (converts .m) (converts .e) (converts .most) (isNegative d && scaleFits d))
+
+  pub value-lowest : T (le (fin true 1 (pos 96)) (value d))
+  value-lowest = subst (λ (v : Float). T (le (fin true 1 (pos 96)) v)) (sym (converts .is)) (at-lowest (converts .m) (converts .e) (converts .most) (isNegative d && scaleFits d))
+
+  unsigned : isNegative d ≡ false → fin false (converts .m) (converts .e) ≡ value d
+  unsigned n = sym (converts .is ∙ ap (λ (b : Bool). fin (b && scaleFits d) (converts .m) (converts .e)) n)
+
+  pub value-not-below : isNegative d ≡ false → T (le plusZero (value d))
+  value-not-below n = subst (λ (v : Float). T (le plusZero v)) (unsigned n) (not-below (converts .m) (converts .e))
+
+  module _ (p : isPositive d ≡ true) (f : scaleFits d ≡ true) where
+    pub value-least : T (le (fin false 1 (negsuc 93)) (value d))
+    value-least =
+        subst (λ (v : Float). T (le (fin false 1 (negsuc 93)) v)) (unsigned (positive-not-negative d p))
+        (at-least (converts .m) (converts .e) (converts .least (positive-nonzero d p) f))
+
+    pub value-positive : T (positive (value d))
+    value-positive = between (fin false 1 (negsuc 93)) (value d) (fin false 1 (pos 96)) tt tt value-least value-most
+
+pub value-fits : (d : Decimal) → T (fits binary64 (value d))
+unfolding value
+value-fits d =
+    cond-fits binary64 (isZero d) plusZero (cond (leb (d .scale) 28) (nearestDouble d) plusZero) zero
+    (cond-fits binary64 (leb (d .scale) 28) (nearestDouble d) plusZero (round-fits binary64 (d .negative) (coefficient d) (10 ^ d .scale)) zero)
+  where
+    zero : T (fits binary64 plusZero)
+    zero = unfold fits in tt

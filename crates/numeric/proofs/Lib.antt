@@ -1,0 +1,9 @@
+pub mod Doubles
+pub mod Numbers
+pub mod Compare
+pub mod Whole
+pub mod Correct
+pub mod Rounding
+pub mod Patterns
+pub mod Values
+pub mod Exponents
