@@ -1,0 +1,11 @@
+//! The judge of the core: see README.md.
+
+pub mod calls;
+pub mod cases;
+pub mod edge;
+pub mod figures;
+pub mod generator;
+#[allow(dead_code)]
+mod optionstratlib;
+pub mod questions;
+pub mod records;
