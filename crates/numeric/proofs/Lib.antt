@@ -7,3 +7,9 @@ pub mod Rounding
 pub mod Patterns
 pub mod Values
 pub mod Exponents
+pub mod Finite
+pub mod Order
+pub mod Rounded
+pub mod Monotone
+pub mod Bounds
+pub mod Tables

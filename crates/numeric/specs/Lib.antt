@@ -3,3 +3,4 @@ pub mod Root
 pub mod Correct
 pub mod Samples
 pub mod Step
+pub mod Table

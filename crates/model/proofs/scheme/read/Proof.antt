@@ -1,0 +1,17 @@
+-- `model::scheme::read` meets its contract. Assumes nothing.
+use borrow.Author.Needs.{needs}
+use Rattle.model.proofs.Laws.{read-take}
+use Rattle.model.proofs.scheme.read.Statement.{statement}
+use Rattle.model.proofs.scheme.read.Tie as tie
+
+weighted-sum-requires : tie.Need-weighted-sum-requires
+weighted-sum-requires c κs = search needs
+
+variance-at-requires : tie.Need-variance-at-requires
+variance-at-requires c κs = search needs
+
+returns : tie.Need-returns
+returns c = read-take _ _ _ _ _ _ (c .before .weighted-sum .ensures) (c .variance-at .ensures)
+
+pub read-spec : {M : Type 1} → statement M
+read-spec = tie.close (tie.spec weighted-sum-requires variance-at-requires returns)

@@ -1,0 +1,10 @@
+pub mod Kernel
+pub mod Parameters
+pub mod Schedule
+pub mod Step
+pub mod Walk
+pub mod Rates
+pub mod Laid
+pub mod Doors
+pub mod Trace
+pub mod Figures

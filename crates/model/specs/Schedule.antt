@@ -1,0 +1,99 @@
+-- A schedule: segments of a Decimal dt and a step count, laid end to end. Definitions only.
+use mathlib.Core.Bool.{Bool, true, false, _&&_}
+use mathlib.Core.List.{List, [], _∷_, _++_}
+use Prim.Native.Nat.{ℕ, zero, suc, pred, _+_}
+use lib.Dec.{leb, ltb}
+use lib.ListN.{getD, take}
+use lib.Ieee.{Float, nan, binary64}
+use Rattle.numeric.specs.Root.{root}
+use Rattle.numeric.specs.Table.{tabulate}
+use Rattle.decimal.specs.Decimal.{isPositive, value}
+use Rattle.refusal.specs.declared.Refusal.the-variants.{AtSegment}
+use Rattle.refusal.specs.Questions.{Question, ask, asked, each}
+use Rattle.model.specs.declared.Segment.{Segment}
+use Rattle.model.specs.declared.Segments.{Segments}
+use Rattle.model.specs.declared.Schedule.{Schedule}
+use Rattle.model.specs.Parameters.{zeroDecimal, scaleQuestion}
+
+-- segment i as given, counted from 1
+abbrev pub segmentAt : Segments → ℕ → Segment
+segmentAt g i = getD (g .segments) (pred i) (record { dt = zeroDecimal; steps = 0 })
+
+-- the steps of the first i segments together, which is the last step of segment i
+unfoldable pub stepsThrough : Segments → ℕ → ℕ
+stepsThrough g zero = 0
+stepsThrough g (suc i) = stepsThrough g i + segmentAt g (suc i) .steps
+
+-- "13 dt > 0 and steps > 0? 14 Running total ≤ 4,096? (segment, for both) Then 1 for its dt": of segment i, with the running total that includes it
+abbrev pub questionsOf : Segment → ℕ → ℕ → List Question
+questionsOf s i total =
+    ask (AtSegment 13 i) (isPositive (s .dt) && ltb 0 (s .steps))
+    ∷ ask (AtSegment 14 i) (leb total 4096)
+    ∷ scaleQuestion (s .dt)
+    ∷ []
+
+-- "Segment by segment"
+abbrev pub segmentQuestions : Segments → ℕ → List Question
+segmentQuestions g i = questionsOf (segmentAt g i) i (stepsThrough g i)
+
+-- "11 Is there a segment? 12 At most 64?", then segment by segment
+unfoldable pub scheduleQuestions : Segments → List Question
+scheduleQuestions g =
+    (asked 11 (leb 1 (g .count)) ∷ asked 12 (leb (g .count) 64) ∷ []) ++ each (segmentQuestions g) (g .count)
+
+-- the schedule as converted; "sqrt_dt is the root of the converted dt"
+unfoldable pub scheduleOf : Segments → Schedule
+unfolding tabulate stepsThrough root
+scheduleOf g =
+    record {
+      count = g .count;
+      total = stepsThrough g (g .count);
+      dt = tabulate (g .count) (λ i. value (segmentAt g (suc i) .dt));
+      «sqrt_dt» = tabulate (g .count) (λ i. root binary64 (value (segmentAt g (suc i) .dt)));
+      last = tabulate (g .count) (λ i. stepsThrough g (suc i));
+    }
+
+-- the last step of segment i, counted from 1; before the first segment, 0
+abbrev pub lastStep : Schedule → ℕ → ℕ
+lastStep sc zero = 0
+lastStep sc (suc i) = getD (sc .last) i 0
+
+-- "A segment contains the steps after its predecessor's last, up to its own last."
+abbrev pub contains : Schedule → ℕ → ℕ → Bool
+contains sc zero k = false
+contains sc (suc i) k = ltb (lastStep sc i) k && leb k (lastStep sc (suc i))
+
+-- the first of the numbers 1 to n that passes, or 0
+abbrev pub orNext : ℕ → Bool → ℕ → ℕ
+orNext zero true n = n
+orNext zero false n = 0
+orNext (suc m) passes n = suc m
+
+unfoldable pub firstOf : (ℕ → Bool) → ℕ → ℕ
+firstOf passes zero = 0
+firstOf passes (suc n) = orNext (firstOf passes n) (passes (suc n)) (suc n)
+
+-- the segment that contains step k
+unfoldable pub segmentOf : Schedule → ℕ → ℕ
+unfolding firstOf
+segmentOf sc k = firstOf (λ i. contains sc i k) (sc .count)
+
+-- dt and sqrt_dt of the segment that contains step k
+unfoldable pub dtAt : Schedule → ℕ → Float
+unfolding segmentOf
+dtAt sc k = getD (sc .dt) (pred (segmentOf sc k)) nan
+
+unfoldable pub sqrtDtAt : Schedule → ℕ → Float
+unfolding segmentOf
+sqrtDtAt sc k = getD (sc .«sqrt_dt») (pred (segmentOf sc k)) nan
+
+-- The code keeps a schedule in arrays of 64, of which the first `count` are in use.
+abbrev pub scheduleInUse : Schedule → Schedule
+scheduleInUse sc =
+    record {
+      count = sc .count;
+      total = sc .total;
+      dt = take (sc .count) (sc .dt);
+      «sqrt_dt» = take (sc .count) (sc .«sqrt_dt»);
+      last = take (sc .count) (sc .last);
+    }

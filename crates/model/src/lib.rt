@@ -1,0 +1,104 @@
+// The quadratic rough Heston model: kernel tables, parameters, schedule, state and step.
+use decimal::Decimal;
+use refusal::Outcome;
+use refusal::Quantity;
+
+pub mod doors;
+pub mod scheme;
+pub mod trace;
+
+// The tables of n weights and n discounts, in the first n places.
+pub struct Kernel {
+    pub n: usize,
+    pub weights: [f64; 10],
+    pub discounts: [f64; 10],
+}
+
+// The parameters as given.
+#[repr(C)]
+pub struct Params {
+    pub a: Decimal,
+    pub b: Decimal,
+    pub c: Decimal,
+    pub lambda: Decimal,
+    pub eta: Decimal,
+    pub spot: Decimal,
+    pub factor_count: usize,
+    pub factors: [Decimal; 10],
+}
+
+// The parameters as converted.
+pub struct RawParams {
+    pub a: f64,
+    pub b: f64,
+    pub c: f64,
+    pub lambda: f64,
+    pub eta: f64,
+}
+
+// The state of a path: spot, z, variance and its factors, in the first n places.
+pub struct State {
+    pub spot: f64,
+    pub z: f64,
+    pub variance: f64,
+    pub factors: [f64; 10],
+}
+
+// One segment of a schedule as given: `steps` steps of `dt` years.
+#[repr(C)]
+pub struct Segment {
+    pub dt: Decimal,
+    pub steps: u32,
+}
+
+// A schedule as given: its segments, in the first `count` places.
+#[repr(C)]
+pub struct Segments {
+    pub count: usize,
+    pub segments: [Segment; 64],
+}
+
+// A schedule as converted, with the last step of each segment, in the first `count` places.
+pub struct Schedule {
+    pub count: usize,
+    pub total: usize,
+    pub dt: [f64; 64],
+    pub sqrt_dt: [f64; 64],
+    pub last: [usize; 64],
+}
+
+// Whether a state is finite, or what of it is not.
+pub enum Finiteness {
+    Finite,
+    NonFinite(Quantity),
+}
+
+// What does not change along a segment. A divisor is 1 + discount × dt.
+pub struct Rates {
+    pub dt: f64,
+    pub sqrt_dt: f64,
+    pub divisors: [f64; 10],
+}
+
+// What a trace answers: its steps are all finite, or the first that is not and what of it.
+pub enum Traced {
+    Done { steps: u64 },
+    NonFinite { step: u64, quantity: Quantity },
+}
+
+// A door answers what its questions came to and, where all passed, what it prepared.
+pub struct KernelDoor {
+    pub outcome: Outcome,
+    pub kernel: Kernel,
+}
+
+pub struct ParamsDoor {
+    pub outcome: Outcome,
+    pub raw: RawParams,
+    pub start: State,
+}
+
+pub struct ScheduleDoor {
+    pub outcome: Outcome,
+    pub schedule: Schedule,
+}
