@@ -13,16 +13,16 @@ use Rattle.refusal.specs.declared.Refusal.{Refusal}
 use Rattle.refusal.specs.declared.Refusal.the-variants.{Plain, InTable}
 use Rattle.refusal.specs.declared.Outcome.the-variants.{Passed, Refused}
 use Rattle.refusal.specs.Questions.{firstNo, each}
-use Rattle.refusal.proofs.Laws.{each-none, each-more, each-stops, never-both}
+use Rattle.refusal.proofs.Laws.{each-none, each-more, each-stops, each-passed, passed-head, passed-tail, never-both}
 use Rattle.model.specs.declared.Kernel.{Kernel}
 use Rattle.model.specs.declared.KernelDoor.{KernelDoor}
 use Rattle.model.specs.Kernel.{inRange, entryQuestions, kernelQuestions, kernelOf}
 use Rattle.model.specs.Doors.{KernelPrepared}
 
 -- a refusal prepares nothing
-pub kernel-refused : (weights discounts : List Float) (r : KernelDoor) (x : Refusal) → r .outcome ≡ Refused x → firstNo (kernelQuestions weights discounts) ≡ Refused x → KernelPrepared weights discounts r
+pub kernel-refused : (weights discounts : List Float) (r : KernelDoor) (x : Refusal) → (r .outcome ≡ Refused x) × (r .kernel .n ≡ 0) → firstNo (kernelQuestions weights discounts) ≡ Refused x → KernelPrepared weights discounts r
 kernel-refused weights discounts r x e f =
-    record { outcome = e ∙ sym f; ready = λ p. absurd (never-both (r .outcome) x e p) }
+    record { outcome = e .0 ∙ sym f; few = omega (arith, e .1); ready = λ p. absurd (never-both (r .outcome) x (e .0) p) }
 
 module _ (weights discounts : List Float) where
   -- the lengths, as questions 2 and 3 ask them
@@ -104,9 +104,26 @@ module _ (weights discounts : List Float) where
         let ds : take (length discounts) kept-discounts ≡ discounts = take-is nan discounts kept-discounts (omega arith) (λ j h. all .discount j (omega arith)) in
         rw (← n, ds, n, ws)
 
+    entry-passed : (j : ℕ) → j < length weights → firstNo (entryQuestions weights discounts (suc j)) ≡ Passed
+    entry-passed j h = each-passed (entryQuestions weights discounts) j i (omega arith) (all .passed)
+
+    weight-fits : (j : ℕ) → j < length weights → inRange (getD kept-weights j nan) ≡ true
+    weight-fits j h = rw (all .weight j (omega arith)) (passed-head _ _ (entry-passed j h))
+
+    discount-fits : (j : ℕ) → j < length weights → inRange (getD kept-discounts j nan) ≡ true
+    discount-fits j h = rw (all .discount j (omega arith)) (passed-head _ _ (passed-tail _ _ (entry-passed j h)))
+
     pub kernel-prepared : KernelPrepared weights discounts (record { outcome = Passed; kernel = record { n = length weights; weights = kept-weights; discounts = kept-discounts } })
     kernel-prepared =
         record {
           outcome = sym (left (all .counted) ∙ ap (λ (n : ℕ). firstNo (each (entryQuestions weights discounts) n)) (sym end) ∙ all .passed);
-          ready = λ e. record { in-use = in-use; some = all .counted .some; few = all .counted .few };
+          few = all .counted .few;
+          ready = λ e.
+              record {
+                in-use = in-use;
+                some = all .counted .some;
+                few = all .counted .few;
+                weight = weight-fits;
+                discount = discount-fits;
+              };
         }

@@ -1,8 +1,13 @@
 pub mod Laws
 pub mod First
 pub mod Stops
-pub mod Points
+pub mod FiniteStates
 pub mod Containment
+pub mod WalkLaws
+pub mod Points
 pub mod Tracing
 pub mod Entries
 pub mod Laying
+mod Elements
+pub mod Admitting
+pub mod Preparing

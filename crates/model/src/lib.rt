@@ -102,3 +102,11 @@ pub struct ScheduleDoor {
     pub outcome: Outcome,
     pub schedule: Schedule,
 }
+
+pub struct ModelDoor {
+    pub outcome: Outcome,
+    pub kernel: Kernel,
+    pub raw: RawParams,
+    pub start: State,
+    pub schedule: Schedule,
+}

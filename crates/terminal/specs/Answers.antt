@@ -5,12 +5,32 @@ use Prim.Native.Nat.{ℕ}
 use Rattle.decimal.specs.declared.Converted.{Converted}
 use Rattle.decimal.specs.declared.Converted.the-variants.{Value, ScaleTooLarge}
 use Rattle.decimal.specs.Decimal.{plusZero}
+use Rattle.refusal.specs.declared.Refusal.{Refusal}
+use Rattle.refusal.specs.declared.Refusal.the-variants.{Plain, InTable, AtSegment, NonFinite, OnPath, Estimate}
+use Rattle.refusal.specs.Refusal.{numberOf, placeOf}
 use Rattle.terminal.specs.declared.Conversion.{Conversion}
+use Rattle.terminal.specs.declared.Trace.{Trace}
+use Rattle.terminal.specs.declared.Trace.the-variants.{Done, Refused}
+use Rattle.terminal.specs.declared.TraceAnswer.{TraceAnswer}
 
 abbrev pub noPlace : List ℕ
 noPlace = 0 ∷ 0 ∷ 0 ∷ 0 ∷ []
+
+-- the steps taken at a refusal: none but at 22, which has them for its fourth place
+abbrev pub stepsTaken : Refusal → ℕ
+stepsTaken (Plain number) = 0
+stepsTaken (InTable table index) = 0
+stepsTaken (AtSegment number segment) = 0
+stepsTaken (NonFinite path step quantity steps) = steps
+stepsTaken (OnPath number path) = 0
+stepsTaken (Estimate which) = 0
 
 -- converting a Decimal: its double; 1, the scale of a nonzero Decimal is above 28
 abbrev pub conversion : Converted → Conversion
 conversion (Value v) = record { number = 0; place = noPlace; value = v }
 conversion ScaleTooLarge = record { number = 1; place = noPlace; value = plusZero }
+
+-- tracing: the steps taken; a refusal, with the steps taken before 22 ended it
+abbrev pub traced : Trace → TraceAnswer
+traced (Done steps) = record { number = 0; place = noPlace; steps = steps }
+traced (Refused refusal) = record { number = numberOf refusal; place = placeOf refusal; steps = stepsTaken refusal }

@@ -20,7 +20,7 @@ fn in_range(x: f64) -> bool
 }
 
 fn refused(refusal: Refusal) -> KernelDoor
-    ensures { λ r. ⌜ r .outcome ≡ Outcome.Refused refusal ⌝ }
+    ensures { λ r. ⌜ (r .outcome ≡ Outcome.Refused refusal) × (r .kernel .n ≡ 0) ⌝ }
 {
     let nothing = [0.0; 10];
     KernelDoor {

@@ -1,0 +1,318 @@
+-- `batch::paths::run_paths` meets its contract. The loops' invariants and what a turn does to them are in `proofs/Turns.antt`, what the code is handed in `proofs/Handed.antt`, and the claim in `proofs/Claim.antt`.
+-- Assumes nothing.
+use mathlib.Core.Path.{_≡_, sym, _∙_, ap}
+use mathlib.Core.Bool.{_||_}
+use mathlib.Core.Logic.{⊎-elim}
+use Prim.Native.Nat.{suc, _-_, _<_}
+use native.Mathlib.Omega.{arith}
+use borrow.Author.Needs.{needs}
+use lib.ListN.{length, getD}
+use lib.Ieee.{nan, le}
+use lib.Seq.{getD-take}
+use Rattle.numeric.specs.Double.{plusZero}
+use Rattle.model.specs.declared.Finiteness.the-variants.{Finite}
+use Rattle.model.specs.Laid.{Laid}
+use Rattle.model.specs.Rates.{RatesOf}
+use Rattle.model.specs.Schedule.{lastStep, dtAt, sqrtDtAt, scheduleInUse}
+use Rattle.model.specs.Step.{step, finiteness, kernelInUse, stateInUse}
+use Rattle.model.proofs.Laws.{rates-own}
+use Rattle.model.proofs.Containment.{laid-in-use, reached-open}
+use Rattle.batch.specs.Batch.{batchOf, drawOf}
+use Rattle.batch.proofs.Handed.{zero-bits, finite-in-use, place-within, observed-in-use, step-in-use}
+use Rattle.batch.proofs.Turns.{Inner, Outer, Small, small, turn-first, next-state, raised, left-low, count-up, count-left, turn-on, turn-write, path-first, path-next, run-ends, entries-end, run-done, entries-done}
+use Rattle.batch.proofs.Whole.{whole}
+use Rattle.batch.proofs.Claim.{with-claim}
+use Rattle.batch.proofs.paths.run_paths.Statement.{statement}
+use Rattle.batch.proofs.paths.run_paths.Tie as tie
+
+abbrev Inv-loop : tie.InvT-loop
+Inv-loop k p start observed form mirrored paths draws seen₀ sched total count first failed₀ steps₀ non-positive path s₀ rates₀ segment₀ at₀ low₀ seen failed steps s rates segment at low =
+    Inner (batchOf k p start sched observed form mirrored paths draws) path seen₀ seen steps segment at (stateInUse (k .n) s) low
+    × RatesOf k (getD (sched .dt) segment nan) (getD (sched .«sqrt_dt») segment nan) rates
+
+abbrev μ-loop : tie.MeasureT-loop
+μ-loop k p start observed form mirrored paths draws seen₀ sched total count first failed₀ steps₀ non-positive path s₀ rates₀ segment₀ at₀ low₀ seen failed steps s rates segment at low =
+    total - at
+
+abbrev Inv-paths : tie.InvT-paths
+Inv-paths k p start observed form mirrored paths draws seen₀ sched total count first failed₀ steps₀ non-positive₀ path₀ seen failed steps non-positive path =
+    Outer (batchOf k p start sched observed form mirrored paths draws) seen₀ seen steps non-positive path
+
+abbrev μ-paths : tie.MeasureT-paths
+μ-paths k p start observed form mirrored paths draws seen₀ sched total count first failed₀ steps₀ non-positive₀ path₀ seen failed steps non-positive path =
+    paths - path
+
+-- ---- the places of the code that the answers name: the entry, a turn of the path loop, a turn of the step loop, the step taken, and the flag set after it
+
+abbrev Entry : Type 0
+Entry = tie.Start Inv-loop μ-loop Inv-paths μ-paths
+
+abbrev Path : Type 0
+Path = tie.In-paths Inv-loop μ-loop Inv-paths μ-paths
+
+abbrev Turn : Type 0
+Turn = tie.In-loop Inv-loop μ-loop Inv-paths μ-paths
+
+abbrev Stepped : Type 0
+Stepped = tie.After-step Inv-loop μ-loop Inv-paths μ-paths
+
+abbrev Flagged : Type 0
+Flagged = tie.Joined1 Inv-loop μ-loop Inv-paths μ-paths
+
+abbrev entry : Path → Entry
+entry c = c .before .before .before .before .before
+
+abbrev path-of : Turn → Path
+path-of c = c .before .before
+
+abbrev turn-of : Stepped → Turn
+turn-of c = c .before .before
+
+abbrev step-of : Flagged → Stepped
+step-of c = c .before .before .before .before .before
+
+laid-at : (c : Entry) → Laid (scheduleInUse (c .args .t4))
+laid-at c = laid-in-use (c .args .t4) (c .pre .0 .laid)
+
+-- ---- before the loops
+
+rates-at-requires : tie.Need-rates-at-requires Inv-loop μ-loop Inv-paths μ-paths
+rates-at-requires c κs = c .before .before .pre .0 .few
+
+paths-holds : tie.Need-paths-holds Inv-loop μ-loop Inv-paths μ-paths
+paths-holds c = path-first (laid-at (c .before .before .before)) (c .before .before .before .pre .0 .rows)
+
+-- ---- a path begins
+
+loop-holds : tie.Need-loop-holds Inv-loop μ-loop Inv-paths μ-paths
+loop-holds c =
+    (turn-first (laid-at (entry c)) (c .before .paths .inv .counted) (c .before .paths .inv .long), c .before .before .rates-at .ensures)
+
+-- ---- a step: what it asks
+
+small-at : (c : Turn) → Small (entry (path-of c) .args .paths) (path-of c .before .paths .path) (entry (path-of c) .args .t4 .total) (entry (path-of c) .args .t4 .count) (c .before .loop .segment) (c .before .loop .at)
+small-at c =
+    small (laid-at (entry (path-of c))) (c .before .loop .inv .0) (entry (path-of c) .pre .0 .most) (path-of c .paths-test .taken) (c .loop-test .taken)
+
+draw-at-requires : tie.Need-draw-at-requires Inv-loop μ-loop Inv-paths μ-paths
+draw-at-requires c κs =
+    rw (entry (path-of c) .pre .0 .drawn)
+    (place-within (entry (path-of c) .args .mirrored) _ _ _ _ (entry (path-of c) .pre .0 .pairs) (path-of c .paths-test .taken) (c .loop-test .taken))
+
+step-requires : tie.Need-step-requires Inv-loop μ-loop Inv-paths μ-paths
+step-requires c κs =
+    (entry (path-of (c .before)) .pre .0 .few, rates-own (entry (path-of (c .before)) .args .k) _ _ _ (c .before .before .loop .inv .1))
+
+add-at : tie.Need-add-at Inv-loop μ-loop Inv-paths μ-paths
+add-at c = omega (arith, small-at (turn-of c))
+
+add-steps : tie.Need-add-steps Inv-loop μ-loop Inv-paths μ-paths
+add-steps c = omega (arith, small-at (turn-of c), turn-of c .before .loop .inv .0 .counted)
+
+ensure-finite-requires : tie.Need-ensure-finite-requires Inv-loop μ-loop Inv-paths μ-paths
+ensure-finite-requires c κs = search needs
+
+enum-known-quantity : tie.Need-enum-known-quantity Inv-loop μ-loop Inv-paths μ-paths
+enum-known-quantity c = search needs
+
+add-number : tie.Need-add-number Inv-loop μ-loop Inv-paths μ-paths
+add-number c = omega (arith, small-at (turn-of (c .before .before .before .before)))
+
+enum-told : tie.Need-enum-told Inv-loop μ-loop Inv-paths μ-paths
+enum-told c = search needs
+
+mul-if2 : tie.Need-mul-if2 Inv-loop μ-loop Inv-paths μ-paths
+mul-if2 c = omega (arith, small-at (turn-of (step-of c)))
+
+element-copy-out-if2 : tie.Need-element-copy-out-if2 Inv-loop μ-loop Inv-paths μ-paths
+element-copy-out-if2 c = omega (arith, small-at (turn-of (step-of c)))
+
+observe-requires : tie.Need-observe-requires Inv-loop μ-loop Inv-paths μ-paths
+observe-requires c κs =
+    let given = entry (path-of (turn-of (step-of (c .before .before)))) .pre .0 in omega (arith, given .form, given .few)
+
+mul-seen : tie.Need-mul-seen Inv-loop μ-loop Inv-paths μ-paths
+mul-seen c = omega (arith, small-at (turn-of (step-of (c .before .before .before))))
+
+add-seen : tie.Need-add-seen Inv-loop μ-loop Inv-paths μ-paths
+add-seen c = omega (arith, small-at (turn-of (step-of (c .before .before .before))))
+
+mul-seen-2 : tie.Need-mul-seen-2 Inv-loop μ-loop Inv-paths μ-paths
+mul-seen-2 c = omega (arith, small-at (turn-of (step-of (c .before .before .before))))
+
+slice-write-seen : tie.Need-slice-write-seen Inv-loop μ-loop Inv-paths μ-paths
+slice-write-seen c =
+    let turn = turn-of (step-of (c .before .before .before)) in omega (arith, small-at turn, turn .before .loop .inv .0 .long)
+
+add-segment : tie.Need-add-segment Inv-loop μ-loop Inv-paths μ-paths
+add-segment c = omega (arith, small-at (turn-of (step-of (c .before .before .before))))
+
+rates-at-requires-2 : tie.Need-rates-at-requires-2 Inv-loop μ-loop Inv-paths μ-paths
+rates-at-requires-2 c κs = entry (path-of (turn-of (step-of (c .before .before .before)))) .pre .0 .few
+
+-- ---- a step: what it leaves
+
+-- the segment that contains it
+open-at : (c : Turn) → c .before .loop .segment < entry (path-of c) .args .t4 .count
+open-at c = reached-open _ (laid-at (entry (path-of c))) _ _ (c .before .loop .inv .0 .reached) (c .loop-test .taken)
+
+-- the state is that of the plain walk
+module _ (c : Stepped) where
+  abbrev given : Entry
+  given = entry (path-of (turn-of c))
+
+  stepped : stateInUse (given .args .k .n) (c .step .result) ≡ step (kernelInUse (given .args .k)) (given .args .p) (stateInUse (given .args .k .n) (turn-of c .before .loop .s)) (drawOf (given .args .mirrored) (given .args .draws .now) (given .args .t4 .total) (suc (path-of (turn-of c) .before .paths .path)) (suc (turn-of c .before .loop .at))) (dtAt (scheduleInUse (given .args .t4)) (suc (turn-of c .before .loop .at))) (sqrtDtAt (scheduleInUse (given .args .t4)) (suc (turn-of c .before .loop .at)))
+  stepped =
+      step-in-use (given .args .t4) (given .pre .0 .laid) _ _ (turn-of c .before .loop .inv .0 .reached) (open-at (turn-of c)) (given .args .k) (turn-of c .before .loop .rates) (turn-of c .before .loop .inv .1) _ _ _ _ _ _ (c .before .draw-at .ensures) (c .step .ensures)
+
+module _ (c : Flagged) where
+  finite-now : finiteness (stateInUse (given (step-of c) .args .k .n) (step-of c .step .result)) ≡ Finite
+  finite-now =
+      finite-in-use (given (step-of c) .args .k .n) (step-of c .step .result) ∙ sym (c .before .before .before .before .ensure-finite .ensures)
+      ∙ c .before .before .enum-told .given .1
+
+  -- the flag of a non-positive path
+  low-now : c .if1 .low ≡ (turn-of (step-of c) .before .loop .low || le (step-of c .step .result .spot) plusZero)
+  low-now =
+      let zero = ap (le (step-of c .step .result .spot)) (sym zero-bits) in
+      let low = turn-of (step-of c) .before .loop .low in
+      ⊎-elim (λ w. raised low _ _ (zero ∙ w .0 .taken) (w .1)) (λ w. left-low low _ _ (zero ∙ w .0 .left) (w .1)) (c .if1 .came)
+
+  -- the last step of the segment
+  last-now : getD (given (step-of c) .args .t4 .last) (turn-of (step-of c) .before .loop .segment) 0 ≡ lastStep (scheduleInUse (given (step-of c) .args .t4)) (suc (turn-of (step-of c) .before .loop .segment))
+  last-now =
+      let sched = given (step-of c) .args .t4 in sym (getD-take (sched .count) (sched .last) _ 0 (open-at (turn-of (step-of c))))
+
+loop-less : tie.Need-loop-less Inv-loop μ-loop Inv-paths μ-paths
+loop-less c = omega arith
+
+-- with an observation
+loop-again : tie.Need-loop-again Inv-loop μ-loop Inv-paths μ-paths
+loop-again c =
+    let flagged : Flagged = c .before .before .before .before in
+    let turn : Turn = turn-of (step-of flagged) in
+    let handed : Entry = entry (path-of turn) in (
+      turn-write (laid-at handed) (turn .before .loop .inv .0) (turn .loop-test .taken) (stepped (step-of flagged)) (finite-now flagged)
+          (low-now flagged) (path-of turn .paths-test .taken) (c .before .before .if2 .taken ∙ last-now flagged)
+          (c .before .observe .ensures ∙ observed-in-use (handed .args .observed) (handed .args .form) (handed .args .k .n) (handed .pre .0 .form) _),
+      c .rates-at2 .ensures,
+    )
+
+loop-less-2 : tie.Need-loop-less-2 Inv-loop μ-loop Inv-paths μ-paths
+loop-less-2 c = omega arith
+
+-- and without one
+loop-again-2 : tie.Need-loop-again-2 Inv-loop μ-loop Inv-paths μ-paths
+loop-again-2 c =
+    let flagged : Flagged = c .before .before in
+    let turn : Turn = turn-of (step-of flagged) in (
+      turn-on (laid-at (entry (path-of turn))) (turn .before .loop .inv .0) (turn .loop-test .taken) (stepped (step-of flagged)) (finite-now flagged)
+          (low-now flagged) (λ e. c .if2 .left (e ∙ sym (last-now flagged))),
+      turn .before .loop .inv .1,
+    )
+
+-- ---- a path ends
+
+add-non-positive : tie.Need-add-non-positive Inv-loop μ-loop Inv-paths μ-paths
+add-non-positive c =
+    let path : Path = c .before .before .before in
+    omega (arith, path .before .paths .inv .few, path .paths-test .taken, entry path .pre .0 .most)
+
+add-path : tie.Need-add-path Inv-loop μ-loop Inv-paths μ-paths
+add-path c = let path : Path = c .before .before .before in omega (arith, path .paths-test .taken, entry path .pre .0 .most)
+
+paths-less : tie.Need-paths-less Inv-loop μ-loop Inv-paths μ-paths
+paths-less c = omega arith
+
+paths-again : tie.Need-paths-again Inv-loop μ-loop Inv-paths μ-paths
+paths-again c =
+    let path : Path = c .before .before .before in
+    let low = path .before .paths .non-positive in
+    path-next (laid-at (entry path)) (path .before .paths .inv) (path .paths-test .taken) (c .before .before .loop .inv .0) (c .before .loop-test .left)
+    (⊎-elim (λ w. count-up low _ _ (w .0 .taken) (w .1)) (λ w. count-left low _ _ (w .0 .left) (w .1)) (c .if3 .came))
+
+-- ---- the run ends
+
+-- the table is as long as it was lent
+long-left : (c : tie.Left-paths Inv-loop μ-loop Inv-paths μ-paths) → length (c .paths-test .seen) ≡ length (c .before .before .before .before .before .args .seen .now)
+long-left c =
+    ⊎-elim (λ w. ap length (w .1) ∙ c .before .paths .inv .long) (λ w. ap length (w .9) ∙ w .1 .inv .0 .long) (c .paths-test .came)
+    ∙ sym (c .before .before .before .before .before .pre .0 .rows)
+
+same-length : tie.Need-same-length Inv-loop μ-loop Inv-paths μ-paths
+same-length c = long-left (c .before)
+
+-- at a step that is not finite
+returns : tie.Need-returns Inv-loop μ-loop Inv-paths μ-paths
+returns c =
+    let handed : Entry = c .before .before .before .before .before .before in
+    let laid = laid-at handed in
+    let before = c .before .before .paths .inv in
+    ⊎-elim (λ w. absurd (omega (arith, w .0 .left, c .if4 .taken)))
+    (λ w.
+    let taken : Stepped =
+    record { before = record { before = record { before = record { before = record { before = c .before .before; paths-test = w .0 }; loop = w .1 }; loop-test = w .2 }; draw-at = w .3 }; step = w .4 } in
+    let state = next-state laid (w .1 .inv .0) (w .2 .taken) (stepped taken) in
+    let fails = finite-in-use (handed .args .k .n) (w .4 .result) ∙ sym (w .5 .ensures) ∙ w .7 .given .1 in
+    with-claim _ laid (handed .pre .1) _ _ _ (handed .pre .0 .rows)
+    (w .10 ∙ sym (run-ends laid before (w .0 .taken) (w .1 .inv .0) (w .2 .taken) state fails))
+    (whole _ _ _ (laid .some) (handed .pre .0 .rows) (long-left (c .before))
+    (λ q j l m. rw (w .9) (entries-end laid before (w .0 .taken) (w .1 .inv .0) (w .2 .taken) state fails q j l m))))
+    (c .before .paths-test .came)
+
+same-length-2 : tie.Need-same-length-2 Inv-loop μ-loop Inv-paths μ-paths
+same-length-2 c = long-left (c .before)
+
+-- after the last path
+returns-2 : tie.Need-returns-2 Inv-loop μ-loop Inv-paths μ-paths
+returns-2 c =
+    let handed : Entry = c .before .before .before .before .before .before in
+    let laid = laid-at handed in
+    let before = c .before .before .paths .inv in
+    ⊎-elim
+    (λ w.
+    with-claim _ laid (handed .pre .1) _ _ _ (handed .pre .0 .rows) (rw (w .3) (sym (run-done laid before (w .0 .left))))
+    (whole _ _ _ (laid .some) (handed .pre .0 .rows) (long-left (c .before))
+    (λ q j l m. rw (w .1) (entries-done laid before (w .0 .left) q j l m))))
+    (λ w. absurd (omega (arith, w .0 .taken, c .if4 .left))) (c .before .paths-test .came)
+
+pub run-paths-spec : {M : Type 1} → statement M
+run-paths-spec =
+    tie.close
+    (tie.spec
+    Inv-loop
+    μ-loop
+    Inv-paths
+    μ-paths
+    rates-at-requires
+    paths-holds
+    loop-holds
+    draw-at-requires
+    step-requires
+    add-at
+    add-steps
+    ensure-finite-requires
+    enum-known-quantity
+    add-number
+    enum-told
+    mul-if2
+    element-copy-out-if2
+    observe-requires
+    mul-seen
+    add-seen
+    mul-seen-2
+    slice-write-seen
+    add-segment
+    rates-at-requires-2
+    loop-less
+    loop-again
+    loop-less-2
+    loop-again-2
+    add-non-positive
+    add-path
+    paths-less
+    paths-again
+    same-length
+    returns
+    same-length-2
+    returns-2)

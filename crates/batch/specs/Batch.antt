@@ -1,0 +1,162 @@
+-- A batch of paths: each path's plain walk, where the run stops, and what it observes. Definitions only.
+use mathlib.Core.Path.{_≡_}
+use mathlib.Core.Bool.{Bool, true, false, cond, _||_}
+use mathlib.Core.List.{List}
+use mathlib.Core.Option.{Option, none, some}
+use Prim.Native.Nat.{ℕ, zero, suc, pred, _+_, _*_, _/_, _%_, _≤_}
+use lib.Dec.{eqb}
+use lib.ListN.{length, getD}
+use lib.Ieee.{Float, nan, neg, le}
+use Rattle.numeric.specs.Double.{plusZero}
+use Rattle.numeric.specs.Table.{tabulate}
+use Rattle.model.specs.declared.Kernel.{Kernel}
+use Rattle.model.specs.declared.RawParams.{RawParams}
+use Rattle.model.specs.declared.State.{State}
+use Rattle.model.specs.declared.Schedule.{Schedule}
+use Rattle.model.specs.Step.{kernelInUse, stateInUse}
+use Rattle.model.specs.Schedule.{lastStep, scheduleInUse}
+use Rattle.model.specs.Laid.{Laid}
+use Rattle.model.specs.Walk.{Walk, Stop, stateAfter, stopWithin, firstSome, orElse}
+use Rattle.vix.specs.declared.Vix.{Vix}
+use Rattle.vix.specs.Form.{rawSquared, vixInUse}
+use Rattle.batch.specs.declared.Observed.{Observed}
+use Rattle.batch.specs.declared.Observed.the-variants.{Spot, VixSquared}
+use Rattle.batch.specs.declared.Run.{Run}
+use Rattle.batch.specs.declared.Run.the-variants.{Done, NonFinite}
+
+-- What the paths of a batch share, and its draws: `draw p k` is the draw of path p for its step k, both counted from 1.
+pub record Batch : Type 0 where
+  pub kernel : Kernel
+  pub raw : RawParams
+  pub start : State
+  pub schedule : Schedule
+  pub paths : ℕ
+  pub draw : ℕ → ℕ → Float
+  pub observe : State → Float
+
+-- the plain walk of path p
+abbrev pub walkOf : Batch → ℕ → Walk
+walkOf b p =
+    record { kernel = b .kernel; raw = b .raw; start = b .start; schedule = b .schedule; draw = b .draw p }
+
+-- "Path p uses draws (p - 1) × N + 1 to p × N."
+abbrev pub plainDraw : List Float → ℕ → ℕ → ℕ → Float
+plainDraw draws total p k = getD draws (pred p * total + pred k) nan
+
+-- "path 2i - 1 uses draws (i - 1) × N + 1 to i × N and path 2i the same ones negated"
+abbrev pub negatedIf : Bool → Float → Float
+negatedIf true g = neg g
+negatedIf false g = g
+
+abbrev pub mirroredDraw : List Float → ℕ → ℕ → ℕ → Float
+mirroredDraw draws total p k = negatedIf (eqb (p % 2) 0) (getD draws (pred p / 2 * total + pred k) nan)
+
+abbrev pub drawOf : Bool → List Float → ℕ → ℕ → ℕ → Float
+drawOf true draws total p k = mirroredDraw draws total p k
+drawOf false draws total p k = plainDraw draws total p k
+
+-- where that draw stands among those lent, from 0
+abbrev pub drawPlace : Bool → ℕ → ℕ → ℕ → ℕ
+drawPlace true total p k = pred p / 2 * total + pred k
+drawPlace false total p k = pred p * total + pred k
+
+-- the draws that a batch needs: paths × N, or "paths / 2 × N draws are lent"
+abbrev pub drawsNeeded : Bool → ℕ → ℕ → ℕ
+drawsNeeded true paths total = paths / 2 * total
+drawsNeeded false paths total = paths * total
+
+-- "spot for vanillas, raw VIX squared for the VIX"
+abbrev pub observationOf : Observed → Vix → State → Float
+observationOf Spot v s = s .spot
+observationOf VixSquared v s = rawSquared v (s .factors)
+
+-- ---- where the run stops
+
+pub record RunStop : Type 0 where
+  pub path : ℕ
+  pub stop : Stop
+
+abbrev pub onPath : ℕ → Option Stop → Option RunStop
+onPath p none = none
+onPath p (some s) = some (record { path = p; stop = s })
+
+-- "The first failing step ends the whole batch": the first stop among the first n paths
+unfoldable pub runStop : Batch → ℕ → Option RunStop
+unfolding firstSome stopWithin
+runStop b n = firstSome (λ p. onPath p (stopWithin (walkOf b p) (b .schedule .total))) n
+
+-- ---- what the run answers
+
+-- "A path is non-positive if any spot after a step is ≤ 0": among its first k steps
+unfoldable pub nonPositiveBy : Walk → ℕ → Bool
+unfolding stateAfter le
+nonPositiveBy w zero = false
+nonPositiveBy w (suc k) = nonPositiveBy w k || le (stateAfter w (suc k) .spot) plusZero
+
+-- how many of the first n paths are non-positive
+unfoldable pub nonPositivePaths : Batch → ℕ → ℕ
+unfolding nonPositiveBy
+nonPositivePaths b zero = 0
+nonPositivePaths b (suc n) =
+    nonPositivePaths b n + cond (nonPositiveBy (walkOf b (suc n)) (b .schedule .total)) 1 0
+
+-- "The answer carries the steps taken, the failing one included."
+abbrev pub answerAt : Batch → Option RunStop → Run
+answerAt b none = Done (b .paths * b .schedule .total) (nonPositivePaths b (b .paths))
+answerAt b (some s) =
+    NonFinite (s .path) (s .stop .step) (s .stop .quantity) (pred (s .path) * b .schedule .total + s .stop .step)
+
+unfoldable pub runAnswer : Batch → Run
+unfolding runStop nonPositivePaths
+runAnswer b = answerAt b (runStop b (b .paths))
+
+-- ---- the table of observations
+
+-- the observation of path p at the end of segment j
+unfoldable pub observation : Batch → ℕ → ℕ → Float
+unfolding stateAfter
+observation b p j = b .observe (stateAfter (walkOf b p) (lastStep (b .schedule) j))
+
+abbrev pub unlessStopped : {A : Type 0} → Option A → Float → Float → Float
+unlessStopped none written lent = written
+unlessStopped (some s) written lent = lent
+
+-- "Its observation is written at each segment end"; "At 22 a batch has written the observations of segments ended before the failing step;
+-- the rest is untouched": no earlier path stopped, nor this one up to the segment's last step
+unfoldable pub entryAfter : Batch → ℕ → ℕ → Float → Float
+unfolding runStop stopWithin observation
+entryAfter b p j lent =
+    unlessStopped (orElse (runStop b (pred p)) (onPath p (stopWithin (walkOf b p) (lastStep (b .schedule) j))))
+    (observation b p j)
+    lent
+
+-- "row p, one column a segment"
+unfoldable pub tableAfter : Batch → List Float → List Float
+unfolding tabulate entryAfter
+tableAfter b lent =
+    tabulate (length lent) (λ x. entryAfter b (suc (x / b .schedule .count)) (suc (x % b .schedule .count)) (getD lent x nan))
+
+-- ---- what the code is handed
+
+-- The batch of a prepared kernel, parameters and schedule, in arrays of which the first places are in use.
+abbrev pub batchOf : Kernel → RawParams → State → Schedule → Observed → Vix → Bool → ℕ → List Float → Batch
+batchOf k p start sched observed vix mirrored paths draws =
+    record {
+      kernel = kernelInUse k;
+      raw = p;
+      start = stateInUse (k .n) start;
+      schedule = scheduleInUse sched;
+      paths = paths;
+      draw = drawOf mirrored draws (sched .total);
+      observe = observationOf observed (vixInUse vix);
+    }
+
+-- 19 to 21, and what the doors prepare: at most ten factors, a schedule laid end to end, and a form in no more factors than there are
+pub record Prepared (k : Kernel) (sched : Schedule) (vix : Vix) (mirrored : Bool) (paths : ℕ) (draws seen : List Float) : Type 0 where
+  pub few : k .n ≤ 10
+  pub form : vix .n ≤ k .n
+  pub laid : Laid sched
+  pub most : paths ≤ 65536
+  pub pairs : mirrored ≡ true → paths % 2 ≡ 0
+  pub drawn : length draws ≡ drawsNeeded mirrored paths (sched .total)
+  pub rows : length seen ≡ paths * sched .count

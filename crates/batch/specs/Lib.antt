@@ -1,0 +1,3 @@
+pub mod Batch
+pub mod Moments
+pub mod Claim

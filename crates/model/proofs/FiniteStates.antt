@@ -1,0 +1,136 @@
+-- States stay finite and the variance at least c: a finite z has finite factors, adding what is not negative to c gives no less than c, and a start of bounded doubles is finite.
+-- Assumes nothing.
+use mathlib.Core.Path.{_≡_, refl, sym, ap, _∙_, subst}
+use mathlib.Core.Bool.{Bool, true, false}
+use mathlib.Core.List.{List}
+use mathlib.Core.Logic.{⊎-elim}
+use Prim.Native.Nat.{ℕ, zero, suc, _+_, _*_, _^_, _≤_, _<_}
+use native.Mathlib.Nat.{le-trans, le-of-eq, mul-one, one-mul}
+use native.Mathlib.Omega.{arith}
+use lib.IntN.{pos, negsuc}
+use lib.ListN.{getD}
+use lib.Ieee.{Float, nan, inf, fin, binary64, fits, le, up, down}
+use Rattle.numeric.specs.Double.{minus, times, magnitude, finite}
+use Rattle.refusal.specs.declared.Quantity.{Quantity}
+use Rattle.refusal.specs.declared.Quantity.the-variants.{Spot, Z, Variance}
+use Rattle.model.specs.declared.Kernel.{Kernel}
+use Rattle.model.specs.declared.RawParams.{RawParams}
+use Rattle.model.specs.declared.State.{State}
+use Rattle.model.specs.declared.Finiteness.the-variants.{Finite, NonFinite}
+use Rattle.model.specs.Kernel.{inRange}
+use Rattle.model.specs.Step.{weightedSum, varianceAt, read, step, firstOfThree, finiteness}
+use Rattle.model.specs.Walk.{Walk, stateAfter}
+use Rattle.model.specs.Admitted.{Converted, Admitted, Sound}
+use Rattle.model.proofs.First.{split, both-true}
+use Rattle.numeric.proofs.Finite.{never, sign, plus-finite, times-finite}
+use Rattle.numeric.proofs.Order.{le→ordered}
+use Rattle.numeric.proofs.Monotone.{variance-ge}
+use Rattle.numeric.proofs.Bounds.{Within, within-mono, minus-within, zero-within, dot-within, variance-within, range}
+
+-- ---- a finite z has finite factors
+pub sum-factors : (weights factors : List Float) (n : ℕ) → finite (weightedSum weights factors n) ≡ true → (i : ℕ) → i < n → finite (getD factors i nan) ≡ true
+unfolding weightedSum
+sum-factors weights factors zero h i l = absurd (omega arith)
+sum-factors weights factors (suc n) h i l =
+    let parts = plus-finite (weightedSum weights factors n) (times (getD weights n nan) (getD factors n nan)) h in
+    ⊎-elim (λ (z : i < n). sum-factors weights factors n (parts .0) i z)
+    (λ (z : n ≤ i).
+    let e : n ≡ i = omega arith in
+    subst (λ (x : ℕ). finite (getD factors x nan) ≡ true) e (times-finite (getD weights n nan) (getD factors n nan) (parts .1) .1))
+    (split i n)
+
+-- ---- spot, z and variance of a finite state
+not-finite : (q : Quantity) → NonFinite q ≡ Finite → ⊥
+not-finite q e = let z : _≡_ {A = ℕ} 0 1 = cc in omega arith
+
+three : (a b c : Bool) → firstOfThree a b c ≡ Finite → (a ≡ true) × (b ≡ true) × (c ≡ true)
+three false b c e = absurd (not-finite Spot e)
+three true false c e = absurd (not-finite Z e)
+three true true false e = absurd (not-finite Variance e)
+three true true true e = (refl, refl, refl)
+
+pub finite-parts : (s : State) → finiteness s ≡ Finite → (finite (s .spot) ≡ true) × (finite (s .z) ≡ true) × (finite (s .variance) ≡ true)
+unfolding finiteness
+finite-parts s e = three (finite (s .spot)) (finite (s .z)) (finite (s .variance)) e
+
+pub parts-finite : (s : State) → finite (s .spot) ≡ true → finite (s .z) ≡ true → finite (s .variance) ≡ true → finiteness s ≡ Finite
+unfolding finiteness
+parts-finite s a b c = rw (a, b, c)
+
+-- ---- converted Decimals are bounded
+small-within : (x : Float) → le (magnitude x) (fin false 1 (pos 96)) ≡ true → Within 96 x
+unfolding le
+small-within nan h = never refl h
+small-within (inf s) h = never refl h
+small-within (fin s m e) h =
+    record {
+      is-finite = refl;
+      at-most =
+          le-trans (le-of-eq (sym (mul-one (m * up e))))
+          (le-trans (le→ordered (fin false m e) (fin false 1 (pos 96)) refl refl h)
+          (le-of-eq (ap (λ (x : ℕ). x * down e) (one-mul (2 ^ 96)))));
+    }
+
+pub converted-within : {x : Float} → Converted x → Within 96 x
+converted-within {x} h = small-within x (h .small)
+
+-- and so are weights in range
+weight-within : (x : Float) → inRange x ≡ true → Within 90 x
+unfolding inRange
+weight-within x h =
+    let ends = both-true (le (fin false 1 (negsuc 89)) x) (le x (fin false 1 (pos 90))) h in
+    range 89 90 x (ends .0) (ends .1) .within
+
+-- a number that is its own magnitude has no minus sign
+no-sign : (x : Float) → finite x ≡ true → magnitude x ≡ x → sign x ≡ false
+no-sign nan f h = refl
+no-sign (inf s) f h = never refl f
+no-sign (fin s m e) f h = ap sign (sym h)
+
+-- ---- a state that is read off its factors
+module _ (k : Kernel) (p : RawParams) (a-unsigned : sign (p .a) ≡ false) (c-double : fits binary64 (p .c) ≡ true) where
+  read-sound : (spot : Float) (factors : List Float) → finiteness (read k p spot factors) ≡ Finite → Sound k p (read k p spot factors)
+  unfolding read varianceAt
+  read-sound spot factors f =
+      let parts = finite-parts (read k p spot factors) f in
+      let z = weightedSum (k .weights) factors (k .n) in
+      record {
+        spot = parts .0;
+        z = parts .1;
+        variance = parts .2;
+        factor = sum-factors (k .weights) factors (k .n) (parts .1);
+        at-least-c = variance-ge (p .a) (minus z (p .b)) (p .c) a-unsigned c-double (parts .2);
+      }
+
+-- ---- the walks of an admitted model
+module _ (w : Walk) (ok : Admitted (w .kernel) (w .raw) (w .start)) where
+  sum-within : (n : ℕ) → n ≤ w .kernel .n → Within (186 + n) (weightedSum (w .kernel .weights) (w .start .factors) n)
+  unfolding weightedSum
+  sum-within zero h = zero-within 186 true
+  sum-within (suc n) h =
+      dot-within {i = 90} {j = 96} n (sum-within n (omega arith)) (weight-within _ (ok .weight n h))
+      (converted-within (ok .params .factor n h)) (omega (arith, ok .few))
+
+  pub start-finite : finiteness (w .start) ≡ Finite
+  unfolding read varianceAt
+  start-finite =
+      let p = w .raw in
+      let sum : Within 196 (weightedSum (w .kernel .weights) (w .start .factors) (w .kernel .n)) =
+      within-mono (sum-within (w .kernel .n) (omega arith)) (omega (arith, ok .few)) in
+      let shifted = minus-within sum (within-mono (converted-within (ok .params .b)) (omega arith)) (omega arith) in
+      let variance =
+      variance-within (converted-within (ok .params .a)) shifted (converted-within (ok .params .c)) (omega arith) in
+      ap finiteness (ok .start-read)
+      ∙ parts-finite _ (converted-within (ok .params .spot) .is-finite) (sum .is-finite) (variance .is-finite)
+
+  a-sign : sign (w .raw .a) ≡ false
+  a-sign = no-sign (w .raw .a) (converted-within (ok .params .a) .is-finite) (ok .params .a-not-negative)
+
+  -- every state up to which each step is finite, the start included
+  pub walk-sound : (k : ℕ) → ((j : ℕ) → 1 ≤ j → j ≤ k → finiteness (stateAfter w j) ≡ Finite) → Sound (w .kernel) (w .raw) (stateAfter w k)
+  unfolding stateAfter step
+  walk-sound zero h =
+      subst (λ (s : State). Sound (w .kernel) (w .raw) s) (sym (ok .start-read))
+      (read-sound (w .kernel) (w .raw) a-sign (ok .params .c .double) _ _ (ap finiteness (sym (ok .start-read)) ∙ start-finite))
+  walk-sound (suc k) h =
+      read-sound (w .kernel) (w .raw) a-sign (ok .params .c .double) _ _ (h (suc k) (omega arith) (omega arith))
