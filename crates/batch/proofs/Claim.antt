@@ -23,7 +23,7 @@ use Rattle.model.proofs.FiniteStates.{walk-sound}
 use Rattle.batch.specs.declared.Run.{Run}
 use Rattle.batch.specs.declared.Run.the-variants.{Done, NonFinite as Refused}
 use Rattle.batch.specs.Batch.{Batch, walkOf, RunStop, onPath, runStop, nonPositivePaths, answerAt, runAnswer, observation, entryAfter, tableAfter}
-use Rattle.batch.specs.Claim.{OneTo, stateOf, FiniteAt, Step, FiniteBefore, FirstFailure, Answered, Reaches, entry, Written, Demand3}
+use Rattle.batch.specs.Claim.{OneTo, stateOf, FiniteAt, StepTaken, FiniteBefore, FirstFailure, Answered, Reaches, entry, Written, Demand3}
 use Rattle.batch.proofs.Cells.{row-below}
 use Rattle.batch.proofs.Stops.{runStopAt, entry-new, entry-run, entry-path}
 
@@ -33,7 +33,7 @@ module _ (b : Batch) (laid : Laid (b .schedule)) where
   only k g l lo hi zero i e = absurd (omega (arith, i .from))
   only k g l lo hi (suc j) i e = ap suc (segment-only (b .schedule) laid g j k l (i .upto) lo hi e)
 
-  step-of : (p k : ℕ) → OneTo (b .schedule .total) k → Step b p k
+  step-of : (p k : ℕ) → OneTo (b .schedule .total) k → StepTaken b p k
   unfolding stateAfter dtAt sqrtDtAt
   step-of p zero h = absurd (omega (arith, h .from))
   step-of p (suc k) h =

@@ -36,7 +36,7 @@ FiniteAt b p k = finiteness (stateOf b p k) ≡ Finite
 -- ---- 1: "every step of every plain walk is taken once, with the dt of the only segment that contains it"
 
 -- Step k of path p goes from the state before it, with the path's draw k and with dt and sqrt_dt of one segment, the only one that contains it.
-pub record Step (b : Batch) (p k : ℕ) : Type 0 where
+pub record StepTaken (b : Batch) (p k : ℕ) : Type 0 where
   pub segment : ℕ
   pub is-segment : OneTo (b .schedule .count) segment
   pub contained : contains (b .schedule) segment k ≡ true
@@ -67,7 +67,7 @@ pub record FirstFailure (b : Batch) (p k : ℕ) (q : Quantity) : Type 0 where
   pub first-step : (j : ℕ) → 1 ≤ j → j < k → FiniteAt b p j
   pub first-path : FiniteBefore b p
 
--- the answer is a refusal
+-- the answer is number 22
 abbrev pub IsRefused : Run → Type 0
 IsRefused (Done steps low) = ⊥
 IsRefused (Refused p k q steps) = Unit {0}
@@ -100,7 +100,7 @@ pub record Demand3 (b : Batch) (lent after : List Float) (answer : Run) : Type 0
   -- 1. Each path starts at the parameters, and each of its steps is a step of the scheme. This excludes one path's state carried into the next, a segment's last step
   -- run again in the next segment, and a core that works the first step and repeats that state: what 2 and 3 say of these states is then false of it.
   pub starts : (p : ℕ) → stateOf b p 0 ≡ b .start
-  pub steps : (p k : ℕ) → OneTo (b .paths) p → OneTo (b .schedule .total) k → Step b p k
+  pub steps : (p k : ℕ) → OneTo (b .paths) p → OneTo (b .schedule .total) k → StepTaken b p k
   -- 2. This excludes a core that refuses everything, one that reports non-finite before the first step or a step late, and an invented step total.
   pub answered : Answered b answer
   -- 3. This excludes a core that writes no observation, or writes one at or after the stop, or in another column, and a fixed price: prices are made of this table.

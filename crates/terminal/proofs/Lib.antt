@@ -1,1 +1,6 @@
 pub mod TraceCall
+pub mod Sizes
+pub mod Reported
+pub mod Observed
+pub mod Pricing
+pub mod Asked

@@ -10,8 +10,11 @@ use Rattle.refusal.specs.declared.Refusal.the-variants.{Plain, InTable, AtSegme
 use Rattle.refusal.specs.Refusal.{numberOf, placeOf}
 use Rattle.terminal.specs.declared.Conversion.{Conversion}
 use Rattle.terminal.specs.declared.Trace.{Trace}
-use Rattle.terminal.specs.declared.Trace.the-variants.{Done, Refused}
+use Rattle.terminal.specs.declared.Trace.the-variants as trace
 use Rattle.terminal.specs.declared.TraceAnswer.{TraceAnswer}
+use Rattle.terminal.specs.declared.Priced.{Priced}
+use Rattle.terminal.specs.declared.Priced.the-variants as priced
+use Rattle.terminal.specs.declared.VanillaAnswer.{VanillaAnswer}
 
 abbrev pub noPlace : List ℕ
 noPlace = 0 ∷ 0 ∷ 0 ∷ 0 ∷ []
@@ -32,5 +35,33 @@ conversion ScaleTooLarge = record { number = 1; place = noPlace; value = plusZer
 
 -- tracing: the steps taken; a refusal, with the steps taken before 22 ended it
 abbrev pub traced : Trace → TraceAnswer
-traced (Done steps) = record { number = 0; place = noPlace; steps = steps }
-traced (Refused refusal) = record { number = numberOf refusal; place = placeOf refusal; steps = stepsTaken refusal }
+traced (trace.Done steps) = record { number = 0; place = noPlace; steps = steps }
+traced (trace.Refused refusal) = record { number = numberOf refusal; place = placeOf refusal; steps = stepsTaken refusal }
+
+-- pricing a vanilla batch: price and mean terminal spot, each with its standard error, paths, non-positive paths and the steps taken; at a
+-- refusal only these are kept
+abbrev pub vanillaAnswer : Priced → VanillaAnswer
+vanillaAnswer (priced.Price estimates paths nonPositive steps) =
+    record {
+      number = 0;
+      place = noPlace;
+      price = estimates .payoff .mean;
+      «price_error» = estimates .payoff .error;
+      «spot_mean» = estimates .underlying .mean;
+      «spot_error» = estimates .underlying .error;
+      paths = paths;
+      «non_positive» = nonPositive;
+      steps = steps;
+    }
+vanillaAnswer (priced.Refused refusal steps) =
+    record {
+      number = numberOf refusal;
+      place = placeOf refusal;
+      price = plusZero;
+      «price_error» = plusZero;
+      «spot_mean» = plusZero;
+      «spot_error» = plusZero;
+      paths = 0;
+      «non_positive» = 0;
+      steps = steps;
+    }

@@ -1,2 +1,5 @@
 pub mod Trace
+pub mod Batches
+pub mod Vanilla
 pub mod Answers
+pub mod Figures

@@ -1,0 +1,66 @@
+// The inputs of the figures: n = 1, weight 1, discount 4, a = 1, b = 0, c = 4, lambda = eta = 1,
+// spot 100, factor 0, dt 0.25, but for what a figure says.
+use decimal::Decimal;
+use model::Params;
+use model::Segment;
+use model::Segments;
+
+// digits / 10^scale.
+pub fn scaled(digits: u64, scale: u8) -> Decimal {
+    Decimal {
+        low: digits,
+        high: 0,
+        scale: scale,
+        negative: false,
+    }
+}
+
+pub fn whole(number: u64) -> Decimal {
+    scaled(number, 0)
+}
+
+pub fn quarter() -> Decimal {
+    scaled(25, 2)
+}
+
+// The parameters with these a, number of factors and value of each.
+pub fn params(a: u64, factor_count: usize, factor: u64) -> Params {
+    Params {
+        a: whole(a),
+        b: whole(0),
+        c: whole(4),
+        lambda: whole(1),
+        eta: whole(1),
+        spot: whole(100),
+        factor_count: factor_count,
+        factors: [whole(factor); 10],
+    }
+}
+
+// One segment of dt 0.25.
+pub fn segment(steps: u32) -> Segments {
+    let only = Segment {
+        dt: quarter(),
+        steps: steps,
+    };
+    Segments {
+        count: 1,
+        segments: [only; 64],
+    }
+}
+
+// The segments (0.25, 2), (0.5, 3).
+pub fn two_segments() -> Segments {
+    let mut segments = [Segment {
+        dt: quarter(),
+        steps: 2,
+    }; 64];
+    segments[1] = Segment {
+        dt: scaled(5, 1),
+        steps: 3,
+    };
+    Segments {
+        count: 2,
+        segments: segments,
+    }
+}

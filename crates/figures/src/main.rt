@@ -1,0 +1,14 @@
+// Runs the checked figures of document 01, and compares each with what it should be.
+use libc::STDOUT_FILENO;
+
+mod given;
+mod report;
+mod scalar;
+mod trace;
+
+fn main() {
+    let mut wrong = scalar::figures(0);
+    wrong = trace::figures(wrong);
+    io::print_decimal(STDOUT_FILENO, wrong);
+    io::write_all(STDOUT_FILENO, b" wrong\n");
+}

@@ -1,0 +1,12 @@
+pub mod Lists
+pub mod Cells
+pub mod Stores
+pub mod Products
+pub mod Rows
+pub mod Diagonal
+pub mod Workspaces
+pub mod Series
+pub mod Powers
+pub mod Least
+pub mod Outcome
+pub mod Answers

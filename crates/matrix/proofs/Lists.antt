@@ -1,0 +1,89 @@
+-- Small laws of the definitions: a further turn of a loop is a further step of them. Assumes nothing.
+use mathlib.Core.Path.{_≡_, refl, sym, ap, _∙_, subst}
+use mathlib.Core.Bool.{true, false, _&&_}
+use mathlib.Core.List.{List, _++_}
+use Prim.Native.Nat.{ℕ, suc, _+_, _-_, _≤_, _<_}
+use native.Mathlib.Nat.{le-antisymm}
+use native.Mathlib.Numerals.{add-one}
+use native.Mathlib.Omega.{arith}
+use lib.ListN.{length, getD, take, drop, length-drop, length-map, List·getD-map, List·getD-append, drop-of-length-le}
+use lib.Seq.{drop-cons, getD-append-add, length-take-le, getD-take, getD-drop}
+use lib.Ieee.{Float, nan, mul}
+use borrow.Rule.Slice.PartMut.{putMid, postOf}
+use Rattle.numeric.specs.Double.{plusZero, plus, times, finite, magnitude, larger}
+use Rattle.matrix.specs.Matrix.{entry, scaled, allFinite, columnSum, largestSum, norm1}
+
+-- ---- a part of a list
+
+pub counted : (from n : ℕ) → from + n - from ≡ n
+counted from n = omega arith
+
+module _ (l : List Float) (from to : ℕ) where
+  pub part-length : to ≤ length l → length (take (to - from) (drop from l)) ≡ to - from
+  part-length h = length-take-le (to - from) (drop from l) (omega (arith, length-drop from l))
+
+  pub part-at : (j : ℕ) → j < to - from → getD (take (to - from) (drop from l)) j nan ≡ getD l (from + j) nan
+  part-at j h = getD-take (to - from) (drop from l) j nan h ∙ getD-drop from l j nan
+
+-- a list with ys in the place of the k elements from `at` on
+module _ (xs ys : List Float) (at k : ℕ) (within : at ≤ length xs) where
+  pub put-before : (j : ℕ) → j < at → getD (putMid at k xs ys) j nan ≡ getD xs j nan
+  put-before j h =
+      List·getD-append (take at xs) (ys ++ postOf at k xs) nan j (subst (λ (n : ℕ). j < n) (sym (length-take-le at xs within)) h) ∙ getD-take at xs j nan h
+
+  pub put-in : (j : ℕ) → j < length ys → getD (putMid at k xs ys) (at + j) nan ≡ getD ys j nan
+  put-in j h =
+      subst (λ (n : ℕ). getD (putMid at k xs ys) (n + j) nan ≡ getD (ys ++ postOf at k xs) j nan) (length-take-le at xs within) (getD-append-add (take at xs) (ys ++ postOf at k xs) j nan)
+      ∙ List·getD-append ys (postOf at k xs) nan j h
+
+-- ---- entries times a factor
+
+pub length-scaled : (x : Float) (l : List Float) → length (scaled x l) ≡ length l
+unfolding scaled
+length-scaled x l = length-map l (λ (e : Float). times e x)
+
+pub getD-scaled : (x : Float) (l : List Float) (j : ℕ) → getD (scaled x l) j nan ≡ times (getD l j nan) x
+unfolding scaled mul
+getD-scaled x l j = List·getD-map (λ (e : Float). times e x) l j nan
+
+-- ---- every entry finite
+
+finite-cons : (m : List Float) (k : ℕ) → k < length m → allFinite (drop k m) ≡ (finite (getD m k nan) && allFinite (drop (suc k) m))
+unfolding allFinite
+finite-cons m k h = ap allFinite (drop-cons m k nan h)
+
+pub finite-none : (m : List Float) (k : ℕ) → length m ≤ k → allFinite (drop k m) ≡ true
+unfolding allFinite
+finite-none m k h = ap allFinite (drop-of-length-le m h)
+
+pub finite-not : (m : List Float) (k : ℕ) → k < length m → finite (getD m k nan) ≡ false → allFinite (drop k m) ≡ false
+finite-not m k h e = rw (finite-cons m k h, e)
+
+pub finite-more : (m : List Float) (k : ℕ) → k < length m → finite (getD m k nan) ≡ true → allFinite (drop k m) ≡ allFinite (drop (k + 1) m)
+finite-more m k h e = rw (add-one, finite-cons m k h, e)
+
+-- ---- the norm
+
+module _ (n : ℕ) (a : List Float) where
+  pub sum-none : (j : ℕ) → plusZero ≡ columnSum n a j 0
+  unfolding columnSum
+  sum-none j = refl
+
+  pub sum-more : (j i : ℕ) (s x : Float) → s ≡ columnSum n a j i → x ≡ magnitude (entry n a i j) → plus s x ≡ columnSum n a j (i + 1)
+  unfolding columnSum
+  sum-more j i s x e h = rw (add-one, e, h)
+
+  pub sum-all : (j i : ℕ) (s : Float) → s ≡ columnSum n a j i → i ≤ n → n ≤ i → s ≡ columnSum n a j n
+  sum-all j i s e l h = e ∙ ap (columnSum n a j) (le-antisymm l h)
+
+  pub largest-none : plusZero ≡ largestSum n a 0
+  unfolding largestSum
+  largest-none = refl
+
+  pub largest-more : (j : ℕ) (s x y : Float) → s ≡ largestSum n a j → x ≡ columnSum n a j n → y ≡ larger s x → y ≡ largestSum n a (j + 1)
+  unfolding largestSum
+  largest-more j s x y e h m = rw (add-one, m, e, h)
+
+  pub largest-all : (j : ℕ) (s : Float) → s ≡ largestSum n a j → j ≤ n → n ≤ j → s ≡ norm1 n a
+  unfolding norm1
+  largest-all j s e l h = e ∙ ap (largestSum n a) (le-antisymm l h)

@@ -1,0 +1,39 @@
+-- `of_norm` meets its contract: the search goes on where the bound is below the norm. Assumes nothing.
+use mathlib.Core.Path.{ap, _∙_}
+use Prim.Native.Nat.{_<_, _-_}
+use native.Mathlib.Omega.{arith}
+use lib.Ieee.{ofBits}
+use Rattle.matrix.specs.Exponential.{twoToMinus}
+use Rattle.matrix.proofs.Powers.{Searching, searching-none, searching-under, searching-more, searching-done}
+use Rattle.matrix.proofs.scaling.of_norm.Statement.{statement}
+use Rattle.matrix.proofs.scaling.of_norm.Tie as tie
+
+abbrev Inv-loop : tie.InvT-loop
+Inv-loop norm squarings₀ factor₀ bound₀ squarings factor bound = Searching norm squarings factor bound
+
+abbrev μ-loop : tie.MeasureT-loop
+μ-loop norm squarings₀ factor₀ bound₀ squarings factor bound = 1024 - squarings
+
+under : (c : tie.In-loop Inv-loop μ-loop) → c .before .loop .squarings < 1024
+under c = searching-under _ _ _ _ (c .before .before .pre) (c .before .loop .inv) (c .loop-test .taken)
+
+loop-holds : tie.Need-loop-holds Inv-loop μ-loop
+unfolding ofBits
+loop-holds c = searching-none _
+
+add-squarings : tie.Need-add-squarings Inv-loop μ-loop
+add-squarings c = omega (arith, under c)
+
+loop-less : tie.Need-loop-less Inv-loop μ-loop
+loop-less c = omega (arith, under c)
+
+loop-again : tie.Need-loop-again Inv-loop μ-loop
+unfolding ofBits
+loop-again c = searching-more _ _ _ _ (c .before .before .pre) (c .before .loop .inv) (c .loop-test .taken)
+
+returns : tie.Need-returns Inv-loop μ-loop
+returns c = let e = searching-done _ _ _ _ (c .before .before .pre) (c .before .loop .inv) (c .loop-test .left) in (e, c .before .loop .inv .factor-is ∙ ap twoToMinus e)
+
+pub of-norm-spec : {M : Type 1} → statement M
+of-norm-spec =
+    tie.close (tie.spec Inv-loop μ-loop loop-holds add-squarings loop-less loop-again returns)

@@ -1,0 +1,5 @@
+pub mod Matrix
+pub mod Exponential
+pub mod Workspace
+pub mod Call
+pub mod Samples

@@ -1,0 +1,58 @@
+-- What the steps of the exponential say of the workspace, in which matrices of dimension n lie one after the other. Definitions only.
+use Prim.Native.Nat.{ℕ, _+_, _*_, _≤_, _<_}
+use mathlib.Core.Path.{_≡_}
+use mathlib.Core.Bool.{cond}
+use mathlib.Core.List.{List}
+use lib.ListN.{length, getD, take, drop}
+use lib.Ieee.{Float, nan}
+use Rattle.numeric.specs.Double.{plus, times}
+use Rattle.matrix.specs.Matrix.{norm1, product, scaled, identity}
+use Rattle.matrix.specs.Exponential.{squarings, exponentialFinite}
+use Rattle.matrix.specs.declared.Exponentiated.{Exponentiated}
+use Rattle.matrix.specs.declared.Exponentiated.the-variants.{Done, NotFinite}
+
+-- the matrix that begins at a place of the workspace
+abbrev pub matrixAt : ℕ → ℕ → List Float → List Float
+matrixAt n at work = take (n * n) (drop at work)
+
+-- ---- the exponential of a matrix in the workspace
+
+-- the number of squarings, where 17 is passed
+unfoldable pub exponentiated : ℕ → List Float → Exponentiated
+unfolding exponentialFinite squarings norm1
+exponentiated n a =
+    let number = squarings (norm1 n a) in
+    cond (exponentialFinite n a) (Done number) NotFinite
+
+-- and then the result stands in its place
+abbrev pub Holds : Exponentiated → List Float → List Float → Type 0
+Holds (Done s) place result = place ≡ result
+Holds NotFinite place result = Unit {0}
+
+-- ---- its steps
+
+-- the size doubles at `into` are those that were at `from`; the others are as they were
+pub record Moved (size from into : ℕ) (before after : List Float) : Type 0 where
+  pub moved : (j : ℕ) → j < size → getD after (into + j) nan ≡ getD before (from + j) nan
+  pub below : (j : ℕ) → j < into → getD after j nan ≡ getD before j nan
+  pub above : (j : ℕ) → into + size ≤ j → getD after j nan ≡ getD before j nan
+
+-- a row with left × right added to it, entry by entry
+pub record Added (left : Float) (right before after : List Float) : Type 0 where
+  pub len : length after ≡ length before
+  pub sums : (j : ℕ) → j < length right → getD after j nan ≡ plus (getD before j nan) (times left (getD right j nan))
+
+-- the third matrix is the product of the one at `left` and the first; the first two are as they were
+pub record Multiplied (n left : ℕ) (before after : List Float) : Type 0 where
+  pub third : matrixAt n (2 * (n * n)) after ≡ product n (matrixAt n left before) (matrixAt n 0 before)
+  pub others : (k : ℕ) → k < 2 * (n * n) → getD after k nan ≡ getD before k nan
+
+-- the first matrix is the result, and the second is as it was
+pub record First (n : ℕ) (result before after : List Float) : Type 0 where
+  pub first : matrixAt n 0 after ≡ result
+  pub second : matrixAt n (n * n) after ≡ matrixAt n (n * n) before
+
+-- the first matrix is the identity, and the second what the first was, scaled
+pub record Started (n : ℕ) (factor : Float) (before after : List Float) : Type 0 where
+  pub first : matrixAt n 0 after ≡ identity n
+  pub second : matrixAt n (n * n) after ≡ scaled factor (matrixAt n 0 before)

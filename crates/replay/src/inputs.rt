@@ -1,0 +1,93 @@
+// The inputs of a call.
+ghost use Prim.Native.Nat.{_<_};
+use crate::words::after;
+use crate::words::word;
+use decimal::Decimal;
+use model::Params;
+use model::Segment;
+use model::Segments;
+
+// The words of the parameters of a model: six Decimals, a count, ten Decimals.
+const PARAMS: u64 = 33;
+
+pub fn decimal(file: &[u8], at: usize) -> Decimal {
+    let rest = word(file, after(at, 1));
+    Decimal {
+        low: word(file, at),
+        high: (rest % 0x1_0000_0000) as u32,
+        scale: (rest / 0x1_0000_0000 % 0x100) as u8,
+        negative: rest / 0x100_0000_0000 % 2 == 1,
+    }
+}
+
+pub fn size(file: &[u8], at: usize) -> usize {
+    word(file, at) as usize
+}
+
+pub fn flag(file: &[u8], at: usize) -> bool {
+    word(file, at) == 1
+}
+
+pub fn factors(file: &[u8], at: usize) -> [Decimal; 10] {
+    let mut factors = [decimal(file, at); 10];
+    let mut i: usize = 1;
+    while i < 10 {
+        factors[i] = decimal(file, after(at, 2 * (i as u64)));
+        i += 1;
+    }
+    factors
+}
+
+pub fn params(file: &[u8], at: usize) -> Params {
+    let factors = factors(file, after(at, 13));
+    Params {
+        a: decimal(file, at),
+        b: decimal(file, after(at, 2)),
+        c: decimal(file, after(at, 4)),
+        lambda: decimal(file, after(at, 6)),
+        eta: decimal(file, after(at, 8)),
+        spot: decimal(file, after(at, 10)),
+        factor_count: size(file, after(at, 12)),
+        factors: factors,
+    }
+}
+
+pub fn after_params(at: usize) -> usize {
+    after(at, PARAMS)
+}
+
+// Segment i, from 0; zeros where it is not written.
+fn segment(file: &[u8], at: usize, i: usize) -> Segment
+    requires { ⌜ i < 64 ⌝ }
+{
+    if i as u64 >= word(file, after(at, 1)) {
+        return Segment {
+            dt: decimal(file, usize::MAX),
+            steps: 0,
+        };
+    }
+    let segment_at = after(after(at, 2), 3 * (i as u64));
+    Segment {
+        dt: decimal(file, segment_at),
+        steps: (word(file, after(segment_at, 2)) % 0x1_0000_0000) as u32,
+    }
+}
+
+pub fn segments(file: &[u8], at: usize) -> Segments {
+    let mut segments = [segment(file, at, 0); 64];
+    let mut i: usize = 1;
+    while i < 64 {
+        segments[i] = segment(file, at, i);
+        i += 1;
+    }
+    Segments {
+        count: size(file, at),
+        segments: segments,
+    }
+}
+
+pub fn after_segments(file: &[u8], at: usize) -> usize {
+    let written_at = after(at, 2);
+    let written = word(file, after(at, 1));
+    after(after(after(written_at, written), written), written)
+}

@@ -1,0 +1,73 @@
+// A file of recorded cases (oracle/README.md) is a list of 64-bit words, each of 8 bytes, the lowest
+// first. Places in it are counted in words, from 0. Reading is total: past the end there are zeros.
+ghost use mathlib.Core.Path.{_≡_};
+ghost use Prim.Native.Nat.{_+_, _≤_, min};
+
+// The farthest place that is told from others. It lies past the longest file.
+pub const END: usize = 65_537;
+
+fn wide(byte: u8) -> u64
+    ensures { λ r. ⌜ r ≤ 255 ⌝ }
+{
+    byte as u64
+}
+
+fn byte(file: &[u8], at: usize) -> u64
+    ensures { λ r. ⌜ r ≤ 255 ⌝ }
+{
+    if at < file.len() {
+        return wide(file[at]);
+    }
+    0
+}
+
+pub fn word(file: &[u8], at: usize) -> u64 {
+    if at > END {
+        return 0;
+    }
+    let from = 8 * at;
+    byte(file, from)
+        + 0x100 * byte(file, from + 1)
+        + 0x1_0000 * byte(file, from + 2)
+        + 0x100_0000 * byte(file, from + 3)
+        + 0x1_0000_0000 * byte(file, from + 4)
+        + 0x100_0000_0000 * byte(file, from + 5)
+        + 0x1_0000_0000_0000 * byte(file, from + 6)
+        + 0x100_0000_0000_0000 * byte(file, from + 7)
+}
+
+// The place so many words further on.
+pub fn after(at: usize, count: u64) -> usize
+    ensures { λ r. ⌜ r ≡ min (at + count) 65537 ⌝ }
+{
+    if at < END {
+        if count < 65_537 {
+            let sum = at + count as usize;
+            if sum < END {
+                return sum;
+            }
+        }
+    }
+    END
+}
+
+// The place after a list.
+pub fn after_list(file: &[u8], at: usize) -> usize {
+    after(after(at, 1), word(file, at))
+}
+
+// The double of a bit pattern.
+pub fn double(bits: u64) -> f64 {
+    if bits % 0x8000_0000_0000_0000 <= 0x7ff0_0000_0000_0000 {
+        return f64::from_bits(bits);
+    }
+    0.0 / 0.0
+}
+
+// Whether a double has these bits; any NaN is as any other.
+pub fn same(x: f64, bits: u64) -> bool {
+    if x != x {
+        return bits % 0x8000_0000_0000_0000 > 0x7ff0_0000_0000_0000;
+    }
+    f64::to_bits(x) == bits
+}
