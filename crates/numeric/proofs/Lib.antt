@@ -13,3 +13,4 @@ pub mod Rounded
 pub mod Monotone
 pub mod Bounds
 pub mod Tables
+pub mod Above

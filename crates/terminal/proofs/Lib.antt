@@ -4,3 +4,4 @@ pub mod Reported
 pub mod Observed
 pub mod Pricing
 pub mod Asked
+pub mod VixCall

@@ -8,10 +8,15 @@ use Rattle.decimal.specs.Decimal.{plusZero}
 use Rattle.refusal.specs.declared.Refusal.{Refusal}
 use Rattle.refusal.specs.declared.Refusal.the-variants.{Plain, InTable, AtSegment, NonFinite, OnPath, Estimate}
 use Rattle.refusal.specs.Refusal.{numberOf, placeOf}
+use Rattle.matrix.specs.Call.{Reported}
 use Rattle.terminal.specs.declared.Conversion.{Conversion}
 use Rattle.terminal.specs.declared.Trace.{Trace}
 use Rattle.terminal.specs.declared.Trace.the-variants as trace
 use Rattle.terminal.specs.declared.TraceAnswer.{TraceAnswer}
+use Rattle.terminal.specs.declared.ExponentialAnswer.{ExponentialAnswer}
+use Rattle.terminal.specs.declared.Evaluation.{Evaluation}
+use Rattle.terminal.specs.declared.Evaluation.the-variants as evaluation
+use Rattle.terminal.specs.declared.VixAnswer.{VixAnswer}
 use Rattle.terminal.specs.declared.Priced.{Priced}
 use Rattle.terminal.specs.declared.Priced.the-variants as priced
 use Rattle.terminal.specs.declared.VanillaAnswer.{VanillaAnswer}
@@ -65,3 +70,14 @@ vanillaAnswer (priced.Refused refusal steps) =
       «non_positive» = 0;
       steps = steps;
     }
+
+-- exponentiating a matrix: the number of squarings; 26, 16 and 17 have no place
+abbrev pub exponentiated : Reported → ExponentialAnswer
+exponentiated r = record { number = r .number; place = noPlace; squarings = r .squarings }
+
+-- evaluating the VIX: its square and the index
+abbrev pub evaluatedAnswer : Evaluation → VixAnswer
+evaluatedAnswer (evaluation.Done squared index) =
+    record { number = 0; place = noPlace; squared = squared; index = index }
+evaluatedAnswer (evaluation.Refused refusal) =
+    record { number = numberOf refusal; place = placeOf refusal; squared = plusZero; index = plusZero }

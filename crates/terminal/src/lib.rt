@@ -3,21 +3,30 @@
 use batch::Estimates;
 use decimal::Converted;
 use decimal::Decimal;
+use matrix::Answer;
 use model::Params;
 use model::Segments;
+use refusal::Outcome;
 use refusal::Refusal;
+use vix::Vix;
 ghost use mathlib.Core.Path.{_≡_};
 ghost use mathlib.Core.Bool.{true, false};
+ghost use lib.ListN.{length};
 ghost use lib.Ieee.{binary64};
 ghost use Rattle.numeric.specs.Root.{root};
 ghost use Rattle.decimal.specs.Decimal.{convert};
 ghost use Rattle.model.specs.Model.{given};
 ghost use Rattle.model.specs.Trace.{tables};
-ghost use Rattle.terminal.specs.Answers.{conversion, traced, vanillaAnswer};
+ghost use Rattle.matrix.specs.Call.{reported, answer, written};
+ghost use Rattle.refusal.specs.Questions.{firstNo};
+ghost use Rattle.terminal.specs.VixCall.{vixInputs, vixCall, KeptUnlessPassed, throughWorkspace};
+ghost use Rattle.terminal.specs.Answers.{conversion, traced, exponentiated, evaluatedAnswer, vanillaAnswer};
 ghost use Rattle.terminal.specs.Trace.{traceCall, traceTables};
 ghost use Rattle.terminal.specs.Vanilla.{vanillaInputs, vanillaCall, vanillaTable, VanillaClaim};
 
 pub mod batch_doors;
+pub mod evaluating;
+pub mod form;
 pub mod tracing;
 pub mod vanilla;
 
@@ -40,6 +49,25 @@ pub enum Priced {
         refusal: Refusal,
         steps: u64,
     },
+}
+
+// The factors at which the VIX is wanted, in the first `count` places.
+#[repr(C)]
+pub struct Factors {
+    pub count: usize,
+    pub factors: [Decimal; 10],
+}
+
+// The door of the VIX answers what its questions came to and, where all passed, the form.
+pub struct FormDoor {
+    pub outcome: Outcome,
+    pub vix: Vix,
+}
+
+// What a VIX evaluation answers.
+pub enum Evaluation {
+    Done { squared: f64, index: f64 },
+    Refused(Refusal),
 }
 
 #[repr(C)]
@@ -84,6 +112,27 @@ pub struct TraceAnswer {
     pub steps: u64,
 }
 
+fn trace_answer(call: Trace) -> TraceAnswer
+    ensures { λ r. ⌜ r ≡ traced call ⌝ }
+{
+    match call {
+        Trace::Done { steps } => TraceAnswer {
+            number: 0,
+            place: [0; 4],
+            steps: steps,
+        },
+        Trace::Refused(refusal) => {
+            let number = refusal::number(refusal);
+            let place = refusal::place(refusal);
+            TraceAnswer {
+                number: number,
+                place: place,
+                steps: place[3],
+            }
+        }
+    }
+}
+
 #[no_mangle]
 pub extern "C" fn qrh_trace(
     weights: &[f64],
@@ -102,7 +151,7 @@ pub extern "C" fn qrh_trace(
         ≡ traceTables (given (now (weights .entry)) (now (discounts .entry)) params segments) (now (draws .entry))
         (tables (now (spots .entry)) (now (variances .entry)) (now (zs .entry)) (now (factors .entry))) ⌝ }
 {
-    match tracing::trace(
+    trace_answer(tracing::trace(
         weights,
         discounts,
         params,
@@ -112,22 +161,7 @@ pub extern "C" fn qrh_trace(
         variances,
         zs,
         factors,
-    ) {
-        Trace::Done { steps } => TraceAnswer {
-            number: 0,
-            place: [0; 4],
-            steps: steps,
-        },
-        Trace::Refused(refusal) => {
-            let number = refusal::number(refusal);
-            let place = refusal::place(refusal);
-            TraceAnswer {
-                number: number,
-                place: place,
-                steps: place[3],
-            }
-        }
-    }
+    ))
 }
 
 // The values of a vanilla batch, in the order in which they are reported. At a refusal they are zeros,
@@ -247,4 +281,98 @@ pub extern "C" fn qrh_mirrored(
         draws,
         seen,
     ))
+}
+
+#[repr(C)]
+pub struct ExponentialAnswer {
+    pub number: u32,
+    pub place: [u64; 4],
+    pub squarings: u64,
+}
+
+fn exponential_answer(call: Answer) -> ExponentialAnswer
+    ensures { λ r. ⌜ r ≡ exponentiated (reported call) ⌝ }
+{
+    let mut answer = ExponentialAnswer {
+        number: 0,
+        place: [0; 4],
+        squarings: 0,
+    };
+    match call {
+        Answer::Done(squarings) => {
+            answer.squarings = squarings as u64;
+        }
+        Answer::Shape => {
+            answer.number = 26;
+        }
+        Answer::Workspace => {
+            answer.number = 16;
+        }
+        Answer::NotFinite => {
+            answer.number = 17;
+        }
+    }
+    answer
+}
+
+#[no_mangle]
+pub extern "C" fn qrh_exponential(
+    dimension: usize,
+    input: &[f64],
+    output: &mut [f64],
+    workspace: &mut [f64],
+) -> ExponentialAnswer
+    ensures answer { λ r. ⌜ r ≡ exponentiated (answer dimension (now (input .entry)) (now (output .entry)) (now (workspace .entry))) ⌝ }
+    ensures output { λ r. ⌜ now (output .exit) ≡ written dimension (now (input .entry)) (now (output .entry)) (now (workspace .entry)) ⌝ }
+{
+    exponential_answer(matrix::exponentiate(dimension, input, output, workspace))
+}
+
+#[repr(C)]
+pub struct VixAnswer {
+    pub number: u32,
+    pub place: [u64; 4],
+    pub squared: f64,
+    pub index: f64,
+}
+
+fn vix_answer(call: Evaluation) -> VixAnswer
+    ensures { λ r. ⌜ r ≡ evaluatedAnswer call ⌝ }
+{
+    match call {
+        Evaluation::Done { squared, index } => VixAnswer {
+            number: 0,
+            place: [0; 4],
+            squared: squared,
+            index: index,
+        },
+        Evaluation::Refused(refusal) => {
+            let number = refusal::number(refusal);
+            let place = refusal::place(refusal);
+            VixAnswer {
+                number: number,
+                place: place,
+                squared: 0.0,
+                index: 0.0,
+            }
+        }
+    }
+}
+
+#[no_mangle]
+pub extern "C" fn qrh_vix(
+    weights: &[f64],
+    discounts: &[f64],
+    params: Params,
+    window: Decimal,
+    given: Factors,
+    workspace: &mut [f64],
+) -> VixAnswer
+    ensures answer { λ r. ⌜ r ≡ evaluatedAnswer (vixCall (vixInputs (now (weights .entry)) (now (discounts .entry)) params window given)
+        (length (now (workspace .entry)))) ⌝ }
+    ensures workspace { λ r. ⌜ KeptUnlessPassed
+        (firstNo (throughWorkspace (vixInputs (now (weights .entry)) (now (discounts .entry)) params window given) (length (now (workspace .entry)))))
+        (now (workspace .entry)) (now (workspace .exit)) ⌝ }
+{
+    vix_answer(evaluating::evaluate(weights, discounts, params, window, given, workspace))
 }

@@ -25,11 +25,11 @@ fewer-rows : (n i j : ℕ) → i ≤ j → pairsBefore n i ≤ pairsBefore n j
 fewer-rows n i j h = subst (λ (x : ℕ). pairsBefore n i ≤ pairsBefore n x) (add-sub-of-le h) (more-rows n i (j - i))
 
 -- a pair of row i is one of the pairs in use, and those are at most 55
-pair-in-use : (n i k : ℕ) → i < n → k < n - i → pairsBefore n i + k < pairsBefore n n
+pub pair-in-use : (n i k : ℕ) → i < n → k < n - i → pairsBefore n i + k < pairsBefore n n
 unfolding pairsBefore
 pair-in-use n i k h l = omega (arith, fewer-rows n (suc i) n h)
 
-pairs-most : (n : ℕ) → n ≤ 10 → pairsBefore n n ≤ 55
+pub pairs-most : (n : ℕ) → n ≤ 10 → pairsBefore n n ≤ 55
 unfolding pairsBefore
 pairs-most n h = le-trans (fewer-factors n 10 n h) (fewer-rows 10 n 10 h)
 

@@ -1,1 +1,6 @@
 pub mod Form
+pub mod Generator
+pub mod Appended
+pub mod Build
+pub mod Evaluation
+pub mod Figures
