@@ -1,35 +1,27 @@
--- The questions of a vanilla batch, one door after the other, and the batch that they leave. Assumes nothing.
-use mathlib.Core.Path.{_≡_, sym, _∙_, ap, subst}
+-- What the questions of a batch leave: a call that is ended by the first No, and the batch that is run where there is none. Assumes nothing.
+use mathlib.Core.Path.{_≡_, ap}
 use mathlib.Core.Bool.{Bool}
-use mathlib.Core.List.{List, _++_}
+use mathlib.Core.List.{List}
 use Prim.Native.Nat.{ℕ}
-use native.Mathlib.Omega.{arith}
 use lib.Ieee.{Float}
-use Rattle.decimal.specs.Decimal.{value}
 use Rattle.refusal.specs.declared.Outcome.{Outcome}
 use Rattle.refusal.specs.declared.Outcome.the-variants.{Passed, Refused}
 use Rattle.refusal.specs.declared.Refusal.{Refusal}
-use Rattle.refusal.specs.Questions.{firstNo, orLater}
-use Rattle.refusal.proofs.Laws.{append, never-both, then, stops, passed-first}
+use Rattle.refusal.proofs.Laws.{never-both}
 use Rattle.model.specs.declared.Kernel.{Kernel}
 use Rattle.model.specs.declared.ModelDoor.{ModelDoor}
 use Rattle.model.specs.declared.RawParams.{RawParams}
 use Rattle.model.specs.declared.Schedule.{Schedule}
 use Rattle.model.specs.declared.State.{State}
-use Rattle.model.specs.Model.{Model, modelQuestions, ModelReady, ModelPrepared}
+use Rattle.model.specs.Model.{Model, ModelReady}
 use Rattle.model.specs.Schedule.{scheduleOf}
 use Rattle.vix.specs.declared.Vix.{Vix}
 use Rattle.vix.specs.Form.{vixInUse}
 use Rattle.batch.specs.declared.Observed.{Observed}
-use Rattle.batch.specs.declared.Observed.the-variants.{Spot}
-use Rattle.batch.specs.declared.Payoff.{Payoff}
-use Rattle.batch.specs.declared.Payoff.the-variants.{Vanilla}
-use Rattle.batch.specs.Batch.{Batch, Prepared, drawOf, observationOf, batchOf, tableAfter}
+use Rattle.batch.specs.Batch.{Batch, drawOf, observationOf, batchOf}
 use Rattle.terminal.specs.declared.Priced.{Priced}
 use Rattle.terminal.specs.declared.Priced.the-variants as priced
-use Rattle.terminal.specs.Batches.{strikeQuestions, batchQuestions, batchFor, styleOf, Claimed}
-use Rattle.terminal.specs.Vanilla.{VanillaInputs, vanillaQuestions, vanillaBatch, pricedRun, vanillaCall, vanillaTable, VanillaClaim}
-use Rattle.terminal.proofs.Sizes.{prepared}
+use Rattle.terminal.specs.Batches.{batchQuestions, batchFor, onceAsked, tableOnceAsked}
 
 -- ---- the batch of a prepared model
 
@@ -60,63 +52,14 @@ unfolding batchQuestions
 same-sizes m door ready mirrored paths draws lent =
     ap (λ (s : Schedule). batchQuestions s mirrored paths draws lent) (ready .schedule .in-use)
 
--- ---- the call
+-- ---- a call by the outcome of its questions: its answer, its table, and demand 3 where all are passed
+abbrev pub CallEnsures : Outcome → Priced → List Float → List Float → (List Float → Type 0) → Priced → List Float → Type 0
+CallEnsures q answered written lent Claim r after =
+    (r ≡ onceAsked q 0 answered) × ((after ≡ tableOnceAsked q written lent) × (q ≡ Passed → Claim after))
 
--- the outcome of the model's questions, then the strike's
-abbrev pub first : VanillaInputs → ModelDoor → Outcome
-first i door = orLater (door .outcome) (firstNo (strikeQuestions (i .strike)))
+module _ (answered : Priced) (written lent : List Float) (Claim : List Float → Type 0) {q : Outcome} where
+  pub call-refused : (first : Refusal) → q ≡ Refused first → CallEnsures q answered written lent Claim (priced.Refused first 0) lent
+  call-refused first e = (rw e, (rw e, λ passed. absurd (never-both _ first e passed)))
 
--- the outcome of 19 to 21
-abbrev pub sizes : VanillaInputs → List Float → ModelDoor → Outcome
-sizes i lent door = firstNo (batchQuestions (door .schedule) (i .mirrored) (i .paths) (i .draws) lent)
-
-module _ (i : VanillaInputs) (lent : List Float) where
-  abbrev pub Ensured : Priced → List Float → Type 0
-  Ensured r after = (r ≡ vanillaCall i lent) × ((after ≡ vanillaTable i lent) × VanillaClaim i lent after)
-
-  refused : (r : Refusal) → firstNo (vanillaQuestions i lent) ≡ Refused r → Ensured (priced.Refused r 0) lent
-  unfolding vanillaCall vanillaTable VanillaClaim
-  refused r e = (rw e, (rw e, λ passed. absurd (never-both _ r e passed)))
-
-  passed : firstNo (vanillaQuestions i lent) ≡ Passed → {r : Priced} {after : List Float} → r ≡ pricedRun (vanillaBatch i) (Vanilla (styleOf (i .put)) (value (i .strike))) → after ≡ tableAfter (vanillaBatch i) lent → Claimed (vanillaBatch i) lent after → Ensured r after
-  unfolding vanillaCall vanillaTable VanillaClaim
-  passed e answered table claim = (rw e answered, (rw e table, λ p. claim))
-
-  module _ (door : ModelDoor) (m : ModelPrepared (i .model) door) where
-    first-is : first i door ≡ firstNo (modelQuestions (i .model) ++ strikeQuestions (i .strike))
-    first-is = rw (m .outcome) (sym (append (modelQuestions (i .model)) (strikeQuestions (i .strike))))
-
-    pub first-refused : (r : Refusal) → first i door ≡ Refused r → Ensured (priced.Refused r 0) lent
-    unfolding vanillaQuestions
-    first-refused r e = refused r (stops (modelQuestions (i .model) ++ strikeQuestions (i .strike)) _ r (sym first-is ∙ e))
-
-    module _ (e : first i door ≡ Passed) where
-      pub ready : ModelReady (i .model) door
-      ready = m .ready (m .outcome ∙ passed-first (modelQuestions (i .model)) (strikeQuestions (i .strike)) (sym first-is ∙ e))
-
-      -- all questions come to what 19 to 21 come to
-      sizes-is : firstNo (vanillaQuestions i lent) ≡ sizes i lent door
-      unfolding vanillaQuestions
-      sizes-is =
-          then (modelQuestions (i .model) ++ strikeQuestions (i .strike)) _ (sym first-is ∙ e)
-          ∙ ap firstNo (sym (same-sizes (i .model) door ready (i .mirrored) (i .paths) (i .draws) lent))
-
-      pub sizes-refused : (r : Refusal) → sizes i lent door ≡ Refused r → Ensured (priced.Refused r 0) lent
-      sizes-refused r h = refused r (sizes-is ∙ h)
-
-      module _ (h : sizes i lent door ≡ Passed) (form : Vix) (none : form .n ≡ 0) where
-        pub handed : Prepared (door .kernel) (door .schedule) form (i .mirrored) (i .paths) (i .draws) lent
-        handed =
-            prepared (door .kernel) (door .schedule) form (i .mirrored) (i .paths) (i .draws) lent (ready .kernel .few)
-            (omega (arith, none)) (ready .schedule .laid) h
-
-        abbrev run : Batch
-        run = batchOf (door .kernel) (door .raw) (door .start) (door .schedule) Spot form (i .mirrored) (i .paths) (i .draws)
-
-        run-is : run ≡ vanillaBatch i
-        run-is = same-batch (i .model) door ready (i .mirrored) (i .paths) (i .draws) Spot form
-
-        pub priced-through : {payoff : Payoff} → payoff ≡ Vanilla (styleOf (i .put)) (value (i .strike)) → {r : Priced} {after : List Float} → (r ≡ pricedRun run payoff) × ((after ≡ tableAfter run lent) × Claimed run lent after) → Ensured r after
-        priced-through pays {r} {after} made =
-            passed (sizes-is ∙ h) (made .0 ∙ rw (pays, run-is)) (made .1 .0 ∙ ap (λ (b : Batch). tableAfter b lent) run-is)
-            (subst (λ (b : Batch). Claimed b lent after) run-is (made .1 .1))
+  pub call-passed : q ≡ Passed → {r : Priced} {after : List Float} → r ≡ answered → after ≡ written → Claim after → CallEnsures q answered written lent Claim r after
+  call-passed e made table claim = (rw e made, (rw e table, λ p. claim))

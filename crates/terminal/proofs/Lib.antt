@@ -2,6 +2,8 @@ pub mod TraceCall
 pub mod Sizes
 pub mod Reported
 pub mod Observed
-pub mod Pricing
+pub mod LastColumn
 pub mod Asked
+pub mod VanillaAsked
+pub mod VixAsked
 pub mod VixCall

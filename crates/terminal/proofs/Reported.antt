@@ -6,11 +6,11 @@ use Rattle.batch.specs.declared.Estimates.{Estimates}
 use Rattle.batch.specs.Moments.{notFinite}
 use Rattle.terminal.specs.declared.Priced.{Priced}
 use Rattle.terminal.specs.declared.Priced.the-variants.{Price, Refused}
-use Rattle.terminal.specs.Vanilla.{unlessNotFinite, estimated}
+use Rattle.terminal.specs.Batches.{unlessNotFinite, estimated}
 
-some-not-finite : (which : ℕ) (answered : Priced) (steps : ℕ) → (which ≡ 0 → ⊥) → Refused (refusal.Estimate which) steps ≡ unlessNotFinite which answered steps
-some-not-finite zero answered steps h = absurd (h refl)
-some-not-finite (suc which) answered steps h = refl
+some-not-finite : (which steps : ℕ) (answered : Priced) → (which ≡ 0 → ⊥) → Refused (refusal.Estimate which) steps ≡ unlessNotFinite which steps answered
+some-not-finite zero steps answered h = absurd (h refl)
+some-not-finite (suc which) steps answered h = refl
 
 module _ {made given : Estimates} (e : made ≡ given) (paths low steps : ℕ) {which : ℕ} (w : which ≡ notFinite made) where
   pub all-finite : which ≡ 0 → Price made paths low steps ≡ estimated given paths low steps
@@ -19,4 +19,4 @@ module _ {made given : Estimates} (e : made ≡ given) (paths low steps : ℕ) {
 
   pub one-not-finite : (which ≡ 0 → ⊥) → Refused (refusal.Estimate which) steps ≡ estimated given paths low steps
   unfolding estimated
-  one-not-finite h = rw (← e, ← w) (some-not-finite which (Price made paths low steps) steps h)
+  one-not-finite h = rw (← e, ← w) (some-not-finite which steps (Price made paths low steps) h)

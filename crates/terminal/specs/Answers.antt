@@ -20,6 +20,7 @@ use Rattle.terminal.specs.declared.VixAnswer.{VixAnswer}
 use Rattle.terminal.specs.declared.Priced.{Priced}
 use Rattle.terminal.specs.declared.Priced.the-variants as priced
 use Rattle.terminal.specs.declared.VanillaAnswer.{VanillaAnswer}
+use Rattle.terminal.specs.declared.VixBatchAnswer.{VixBatchAnswer}
 
 abbrev pub noPlace : List ℕ
 noPlace = 0 ∷ 0 ∷ 0 ∷ 0 ∷ []
@@ -38,7 +39,7 @@ abbrev pub conversion : Converted → Conversion
 conversion (Value v) = record { number = 0; place = noPlace; value = v }
 conversion ScaleTooLarge = record { number = 1; place = noPlace; value = plusZero }
 
--- tracing: the steps taken; a refusal, with the steps taken before 22 ended it
+-- tracing: the steps taken; at a refusal its number and place, and the steps taken, the failing one of 22 included
 abbrev pub traced : Trace → TraceAnswer
 traced (trace.Done steps) = record { number = 0; place = noPlace; steps = steps }
 traced (trace.Refused refusal) = record { number = numberOf refusal; place = placeOf refusal; steps = stepsTaken refusal }
@@ -75,9 +76,34 @@ vanillaAnswer (priced.Refused refusal steps) =
 abbrev pub exponentiated : Reported → ExponentialAnswer
 exponentiated r = record { number = r .number; place = noPlace; squarings = r .squarings }
 
--- evaluating the VIX: its square and the index
+-- evaluating the VIX: VIX squared and the index; at a refusal its number and place
 abbrev pub evaluatedAnswer : Evaluation → VixAnswer
 evaluatedAnswer (evaluation.Done squared index) =
     record { number = 0; place = noPlace; squared = squared; index = index }
 evaluatedAnswer (evaluation.Refused refusal) =
     record { number = numberOf refusal; place = placeOf refusal; squared = plusZero; index = plusZero }
+
+-- pricing a VIX batch: payoff and index, each with its standard error, paths and the steps taken; at a refusal only these are kept
+abbrev pub vixBatchAnswer : Priced → VixBatchAnswer
+vixBatchAnswer (priced.Price estimates paths nonPositive steps) =
+    record {
+      number = 0;
+      place = noPlace;
+      payoff = estimates .payoff .mean;
+      «payoff_error» = estimates .payoff .error;
+      index = estimates .underlying .mean;
+      «index_error» = estimates .underlying .error;
+      paths = paths;
+      steps = steps;
+    }
+vixBatchAnswer (priced.Refused refusal steps) =
+    record {
+      number = numberOf refusal;
+      place = placeOf refusal;
+      payoff = plusZero;
+      «payoff_error» = plusZero;
+      index = plusZero;
+      «index_error» = plusZero;
+      paths = 0;
+      steps = steps;
+    }

@@ -2,5 +2,6 @@ pub mod Trace
 pub mod VixCall
 pub mod Batches
 pub mod Vanilla
+pub mod VixBatch
 pub mod Answers
-pub mod Figures
+pub mod Twelve

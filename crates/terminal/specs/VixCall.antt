@@ -26,7 +26,7 @@ use Rattle.vix.specs.Evaluation.{evaluation}
 use Rattle.terminal.specs.declared.Factors.{Factors}
 use Rattle.terminal.specs.declared.FormDoor.{FormDoor}
 use Rattle.terminal.specs.declared.Evaluation.{Evaluation}
-use Rattle.terminal.specs.declared.Evaluation.the-variants as evaluation
+use Rattle.terminal.specs.declared.Evaluation.the-variants as answer
 
 -- What a VIX evaluation is given: a model, a window, and the factors at which the VIX is wanted.
 pub record VixInputs : Type 0 where
@@ -65,7 +65,7 @@ unfolding kernelQuestions paramsQuestions
 initialQuestions i =
     kernelQuestions (i .weights) (i .discounts) ++ paramsQuestions (length (i .weights)) (i .params)
 
--- all but 23 and 24, with a workspace of so many doubles
+-- in the order of document 01: all but 23 and 24, of a workspace of so many doubles
 unfoldable pub vixQuestions : VixInputs → ℕ → List Question
 unfolding initialQuestions formQuestions givenQuestions
 vixQuestions i workspace =
@@ -75,13 +75,14 @@ vixQuestions i workspace =
 
 -- "23 Is each last VIX squared finite? 24 Above zero? (path, for both; none from a VIX evaluation)"
 abbrev pub afterForm : Evaluated → Evaluation
-afterForm (evaluated.Done squared index) = evaluation.Done squared index
-afterForm evaluated.NotFinite = evaluation.Refused (Plain 23)
-afterForm evaluated.NotPositive = evaluation.Refused (Plain 24)
+afterForm (evaluated.Done squared index) = answer.Done squared index
+afterForm evaluated.NotFinite = answer.Refused (Plain 23)
+afterForm evaluated.NotPositive = answer.Refused (Plain 24)
 
+-- "a No ends it with the number"
 abbrev pub evaluationAfter : Outcome → Evaluation → Evaluation
 evaluationAfter Passed answered = answered
-evaluationAfter (Refused refusal) answered = evaluation.Refused refusal
+evaluationAfter (Refused refusal) answered = answer.Refused refusal
 
 -- a form at the factors given, once they are asked
 unfoldable pub evaluationAt : Vix → Factors → Evaluation
@@ -90,6 +91,7 @@ evaluationAt v given =
     evaluationAfter (firstNo (givenQuestions (v .n) given))
     (afterForm (evaluation v (rawFactors (v .n) (given .factors))))
 
+-- the answer, with a workspace of so many doubles lent
 unfoldable pub vixCall : VixInputs → ℕ → Evaluation
 unfolding vixQuestions evaluation vixOf rawFactors
 vixCall i workspace =
@@ -103,6 +105,7 @@ abbrev pub KeptUnlessPassed : Outcome → List Float → List Float → Type 0
 KeptUnlessPassed Passed lent after = Unit
 KeptUnlessPassed (Refused refusal) lent after = after ≡ lent
 
+-- the questions up to 16
 unfoldable pub throughWorkspace : VixInputs → ℕ → List Question
 unfolding initialQuestions windowQuestions
 throughWorkspace i workspace = initialQuestions i ++ windowQuestions (length (i .weights)) (i .window) workspace

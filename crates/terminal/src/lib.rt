@@ -19,16 +19,19 @@ ghost use Rattle.model.specs.Model.{given};
 ghost use Rattle.model.specs.Trace.{tables};
 ghost use Rattle.matrix.specs.Call.{reported, answer, written};
 ghost use Rattle.refusal.specs.Questions.{firstNo};
+ghost use Rattle.terminal.specs.VixBatch.{vixBatchInputs, vixBatchCall, vixBatchTable, VixBatchClaim, throughSixteen};
 ghost use Rattle.terminal.specs.VixCall.{vixInputs, vixCall, KeptUnlessPassed, throughWorkspace};
-ghost use Rattle.terminal.specs.Answers.{conversion, traced, exponentiated, evaluatedAnswer, vanillaAnswer};
+ghost use Rattle.terminal.specs.Answers.{conversion, traced, exponentiated, evaluatedAnswer, vanillaAnswer, vixBatchAnswer};
 ghost use Rattle.terminal.specs.Trace.{traceCall, traceTables};
 ghost use Rattle.terminal.specs.Vanilla.{vanillaInputs, vanillaCall, vanillaTable, VanillaClaim};
 
 pub mod batch_doors;
 pub mod evaluating;
 pub mod form;
+pub mod pricing;
 pub mod tracing;
 pub mod vanilla;
+pub mod vix_batch;
 
 // What a trace answers: the steps taken, all finite, or the first question that got a No.
 pub enum Trace {
@@ -36,8 +39,8 @@ pub enum Trace {
     Refused(Refusal),
 }
 
-// What pricing a vanilla batch answers: its estimates, or the first question that got a No, with the
-// steps taken by then.
+// What pricing a batch answers: its estimates, or the first question that got a No, with the steps
+// taken by then.
 pub enum Priced {
     Price {
         estimates: Estimates,
@@ -56,6 +59,14 @@ pub enum Priced {
 pub struct Factors {
     pub count: usize,
     pub factors: [Decimal; 10],
+}
+
+// A future on the index, or a vanilla on it with its style and its strike.
+#[repr(C)]
+pub struct VixPayoff {
+    pub future: bool,
+    pub put: bool,
+    pub strike: Decimal,
 }
 
 // The door of the VIX answers what its questions came to and, where all passed, the form.
@@ -375,4 +386,91 @@ pub extern "C" fn qrh_vix(
         (now (workspace .entry)) (now (workspace .exit)) ⌝ }
 {
     vix_answer(evaluating::evaluate(weights, discounts, params, window, given, workspace))
+}
+
+// The values of a VIX batch, in the order in which they are reported. At a refusal they are zeros, but
+// for the steps taken.
+#[repr(C)]
+pub struct VixBatchAnswer {
+    pub number: u32,
+    pub place: [u64; 4],
+    pub payoff: f64,
+    pub payoff_error: f64,
+    pub index: f64,
+    pub index_error: f64,
+    pub paths: u64,
+    pub steps: u64,
+}
+
+fn vix_batch_answer(priced: Priced) -> VixBatchAnswer
+    ensures { λ r. ⌜ r ≡ vixBatchAnswer priced ⌝ }
+{
+    match priced {
+        Priced::Price {
+            estimates,
+            paths,
+            non_positive: _,
+            steps,
+        } => {
+            let payoff = estimates.payoff;
+            let index = estimates.underlying;
+            VixBatchAnswer {
+                number: 0,
+                place: [0; 4],
+                payoff: payoff.mean,
+                payoff_error: payoff.error,
+                index: index.mean,
+                index_error: index.error,
+                paths: paths,
+                steps: steps,
+            }
+        }
+        Priced::Refused { refusal, steps } => {
+            let number = refusal::number(refusal);
+            let place = refusal::place(refusal);
+            VixBatchAnswer {
+                number: number,
+                place: place,
+                payoff: 0.0,
+                payoff_error: 0.0,
+                index: 0.0,
+                index_error: 0.0,
+                paths: 0,
+                steps: steps,
+            }
+        }
+    }
+}
+
+// A VIX batch: a row of raw VIX squared a path, a column a segment.
+#[no_mangle]
+pub extern "C" fn qrh_vix_batch(
+    weights: &[f64],
+    discounts: &[f64],
+    params: Params,
+    segments: Segments,
+    window: Decimal,
+    payoff: VixPayoff,
+    paths: usize,
+    draws: &[f64],
+    workspace: &mut [f64],
+    seen: &mut [f64],
+) -> VixBatchAnswer
+    ensures answer { λ r. ⌜ r ≡ vixBatchAnswer (vixBatchCall (vixBatchInputs (given (now (weights .entry)) (now (discounts .entry)) params segments) window payoff paths (now (draws .entry))) (length (now (workspace .entry))) (now (seen .entry))) ⌝ }
+    ensures table { λ r. ⌜ now (seen .exit) ≡ vixBatchTable (vixBatchInputs (given (now (weights .entry)) (now (discounts .entry)) params segments) window payoff paths (now (draws .entry))) (length (now (workspace .entry))) (now (seen .entry)) ⌝ }
+    ensures claim { λ r. ⌜ VixBatchClaim (vixBatchInputs (given (now (weights .entry)) (now (discounts .entry)) params segments) window payoff paths (now (draws .entry))) (length (now (workspace .entry))) (now (seen .entry)) (now (seen .exit)) ⌝ }
+    ensures workspace { λ r. ⌜ KeptUnlessPassed (firstNo (throughSixteen (vixBatchInputs (given (now (weights .entry)) (now (discounts .entry)) params segments) window payoff paths (now (draws .entry))) (length (now (workspace .entry))))) (now (workspace .entry)) (now (workspace .exit)) ⌝ }
+{
+    vix_batch_answer(vix_batch::price_vix(
+        weights,
+        discounts,
+        params,
+        segments,
+        window,
+        payoff,
+        paths,
+        draws,
+        workspace,
+        seen,
+    ))
 }

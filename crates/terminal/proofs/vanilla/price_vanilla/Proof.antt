@@ -5,7 +5,7 @@ use Rattle.refusal.specs.declared.Outcome.the-variants.{Passed}
 use Rattle.refusal.specs.Questions.{orLater}
 use Rattle.model.specs.Model.{given}
 use Rattle.terminal.specs.Vanilla.{VanillaInputs, vanillaInputs}
-use Rattle.terminal.proofs.Asked.{first, first-refused, ready, sizes-refused, handed, priced-through}
+use Rattle.terminal.proofs.VanillaAsked.{first, first-refused, ready, sizes-refused, handed, priced-through}
 use Rattle.terminal.proofs.vanilla.price_vanilla.Statement.{statement}
 use Rattle.terminal.proofs.vanilla.price_vanilla.Tie as tie
 
@@ -81,12 +81,12 @@ no-form-requires : tie.Need-no-form-requires
 no-form-requires c κs = search needs
 
 -- src/vanilla.rt:171:58
-payoff-of-requires : tie.Need-payoff-of-requires
-payoff-of-requires c κs = search needs
+vanilla-payoff-requires : tie.Need-vanilla-payoff-requires
+vanilla-payoff-requires c κs = search needs
 
 -- src/vanilla.rt:171:5
-run-vanilla-requires : tie.Need-run-vanilla-requires
-run-vanilla-requires c κs =
+run-batch-requires : tie.Need-run-batch-requires
+run-batch-requires c κs =
     let made = c .before .before in
     let told = made .before .before .before .before in
     let asked = told .before .before in
@@ -108,7 +108,7 @@ returns-3 c =
     let told = made .before .before .before .before in
     let asked = told .before .before in
     let given = asked .before .before .before .before .before .before .before in
-    priced-through (inputs (start given)) _ _ (given .prepare .ensures) (passed (asked .before .before)) (sym (asked .batch-questions .ensures) ∙ told .enum-told2 .given .1) (made .no-form .result) (made .no-form .ensures) (paid .payoff-of .ensures) (ran .run-vanilla .ensures)
+    priced-through (inputs (start given)) _ _ (given .prepare .ensures) (passed (asked .before .before)) (sym (asked .batch-questions .ensures) ∙ told .enum-told2 .given .1) (made .no-form .result) (made .no-form .ensures) (paid .vanilla-payoff .ensures) (ran .run-batch .ensures)
 
 pub price-vanilla-spec : {M : Type 1} → statement M
 price-vanilla-spec =
@@ -126,7 +126,7 @@ price-vanilla-spec =
     returns-2
     enum-told-2
     no-form-requires
-    payoff-of-requires
-    run-vanilla-requires
+    vanilla-payoff-requires
+    run-batch-requires
     same-length-2
     returns-3)

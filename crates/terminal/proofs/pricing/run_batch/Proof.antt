@@ -1,9 +1,9 @@
--- `terminal::vanilla::run_vanilla` meets its contract. Assumes nothing.
+-- `terminal::pricing::run_batch` meets its contract. Assumes nothing.
 use borrow.Author.Needs.{needs}
 use Rattle.model.proofs.Containment.{laid-in-use}
-use Rattle.terminal.proofs.Pricing.{priced-stopped, priced-done}
-use Rattle.terminal.proofs.vanilla.run_vanilla.Statement.{statement}
-use Rattle.terminal.proofs.vanilla.run_vanilla.Tie as tie
+use Rattle.terminal.proofs.LastColumn.{priced-stopped, priced-done}
+use Rattle.terminal.proofs.pricing.run_batch.Statement.{statement}
+use Rattle.terminal.proofs.pricing.run_batch.Tie as tie
 
 run-paths-requires : tie.Need-run-paths-requires
 run-paths-requires c κs = search needs
@@ -14,8 +14,8 @@ enum-known-ran c = search needs
 enum-known-ran-2 : tie.Need-enum-known-ran-2
 enum-known-ran-2 c = search needs
 
-estimated-requires : tie.Need-estimated-requires
-estimated-requires c κs = search needs
+priced-from-requires : tie.Need-priced-from-requires
+priced-from-requires c κs = search needs
 
 same-length : tie.Need-same-length
 same-length c = search needs
@@ -23,7 +23,7 @@ same-length c = search needs
 returns : tie.Need-returns
 returns c =
     let ran = c .before .before .before .before .before .run-paths .ensures in
-    priced-stopped (ran .0) (ran .1 .0) (ran .1 .1) _ _ _ _ _ (c .before .ran .given .1)
+    priced-stopped (ran .0) (ran .1 .0) (ran .1 .1) _ _ _ _ _ _ (c .before .ran .given .1)
 
 same-length-2 : tie.Need-same-length-2
 same-length-2 c = search needs
@@ -33,16 +33,16 @@ returns-2 c =
     let told = c .before .before .before in
     let run = told .before .before .before .before in
     let start = run .before .before .before .before in
-    priced-done (run .run-paths .ensures .0) (run .run-paths .ensures .1 .0) (run .run-paths .ensures .1 .1) _ (laid-in-use _ (start .pre .0 .laid)) _ _ (told .ran2 .given .1) (c .estimated .ensures)
+    priced-done (run .run-paths .ensures .0) (run .run-paths .ensures .1 .0) (run .run-paths .ensures .1 .1) _ _ (laid-in-use _ (start .pre .0 .laid)) _ _ (told .ran2 .given .1) (c .priced-from .ensures)
 
-pub run-vanilla-spec : {M : Type 1} → statement M
-run-vanilla-spec =
+pub run-batch-spec : {M : Type 1} → statement M
+run-batch-spec =
     tie.close
     (tie.spec
     run-paths-requires
     enum-known-ran
     enum-known-ran-2
-    estimated-requires
+    priced-from-requires
     same-length
     returns
     same-length-2

@@ -1,8 +1,8 @@
--- `terminal::vanilla::estimated` meets its contract. Assumes nothing.
+-- `terminal::pricing::estimated` meets its contract. Assumes nothing.
 use borrow.Author.Needs.{needs}
 use Rattle.terminal.proofs.Reported.{all-finite, one-not-finite}
-use Rattle.terminal.proofs.vanilla.estimated.Statement.{statement}
-use Rattle.terminal.proofs.vanilla.estimated.Tie as tie
+use Rattle.terminal.proofs.pricing.estimated.Statement.{statement}
+use Rattle.terminal.proofs.pricing.estimated.Tie as tie
 
 estimates-requires : tie.Need-estimates-requires
 estimates-requires c κs = search needs

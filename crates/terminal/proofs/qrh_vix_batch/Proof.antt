@@ -1,0 +1,28 @@
+-- `terminal::qrh_vix_batch` meets its contract. Assumes nothing.
+use mathlib.Core.Path.{ap, _∙_}
+use borrow.Author.Needs.{needs}
+use Rattle.terminal.specs.Answers.{vixBatchAnswer}
+use Rattle.terminal.proofs.qrh_vix_batch.Statement.{statement}
+use Rattle.terminal.proofs.qrh_vix_batch.Tie as tie
+
+price-vix-requires : tie.Need-price-vix-requires
+price-vix-requires c κs = search needs
+
+vix-batch-answer-requires : tie.Need-vix-batch-answer-requires
+vix-batch-answer-requires c κs = search needs
+
+same-length : tie.Need-same-length
+same-length c = search needs
+
+same-length-2 : tie.Need-same-length-2
+same-length-2 c = search needs
+
+returns : tie.Need-returns
+returns c =
+    let priced = c .before .before .before .before .before .price-vix .ensures in
+    (c .vix-batch-answer .ensures ∙ ap vixBatchAnswer (priced .0), priced .1)
+
+pub qrh-vix-batch-spec : {M : Type 1} → statement M
+qrh-vix-batch-spec =
+    tie.close
+    (tie.spec price-vix-requires vix-batch-answer-requires same-length same-length-2 returns)

@@ -1,0 +1,37 @@
+-- `terminal::vix_batch_answer` meets its contract: in each arm the answer is the one that `vixBatchAnswer` lists. Assumes nothing.
+use mathlib.Core.Path.{sym, ap}
+use borrow.Author.Needs.{needs}
+use Rattle.decimal.proofs.Value.{zero-bits}
+use Rattle.terminal.specs.Answers.{vixBatchAnswer}
+use Rattle.terminal.proofs.vix_batch_answer.Statement.{statement}
+use Rattle.terminal.proofs.vix_batch_answer.Tie as tie
+
+enum-known-priced : tie.Need-enum-known-priced
+enum-known-priced c = search needs
+
+enum-known-priced-2 : tie.Need-enum-known-priced-2
+enum-known-priced-2 c = search needs
+
+number-requires : tie.Need-number-requires
+number-requires c κs = search needs
+
+place-requires : tie.Need-place-requires
+place-requires c κs = search needs
+
+returns : tie.Need-returns
+returns c = sym (ap vixBatchAnswer (c .before .before .before .priced .given .1))
+
+returns-2 : tie.Need-returns-2
+returns-2 c =
+    rw (c .before .number .ensures, c .place .ensures, zero-bits) (sym (ap vixBatchAnswer (c .before .before .before .priced2 .given .1)))
+
+pub vix-batch-answer-spec : {M : Type 1} → statement M
+vix-batch-answer-spec =
+    tie.close
+    (tie.spec
+    enum-known-priced
+    enum-known-priced-2
+    number-requires
+    place-requires
+    returns
+    returns-2)
