@@ -2,6 +2,7 @@
 use mathlib.Core.Path.{_≡_, refl, sym, _∙_}
 use mathlib.Core.Bool.{Bool, true, false}
 use Prim.Native.Nat.{ℕ, suc, _/_, _%_, _<_, _≤_}
+use native.Mathlib.Nat.{le-refl}
 use native.Mathlib.Omega.{arith}
 use lib.ListN.{getD}
 use lib.Ieee.{Float, nan, binary64, ofBits}
@@ -22,7 +23,7 @@ use Rattle.vix.proofs.Pairs.{squared-in-use}
 use Rattle.batch.specs.declared.Observed.{Observed}
 use Rattle.batch.specs.declared.Observed.the-variants.{Spot, VixSquared}
 use Rattle.batch.specs.Batch.{drawPlace, drawsNeeded, observationOf}
-use Rattle.batch.proofs.Cells.{row-below}
+use Rattle.batch.proofs.Cells.{row-last}
 
 -- the code's 0.0
 pub zero-bits : ofBits binary64 0 ≡ plusZero
@@ -33,11 +34,11 @@ pub finite-in-use : (n : ℕ) (s : State) → finiteness (stateInUse n s) ≡ fi
 unfolding finiteness
 finite-in-use n s = refl
 
--- a draw of the batch is among those lent
-pub place-within : (mirrored : Bool) (paths total path at : ℕ) → (mirrored ≡ true → paths % 2 ≡ 0) → path < paths → at < total → drawPlace mirrored total (suc path) (suc at) < drawsNeeded mirrored paths total
-place-within false paths total path at even p k = row-below path paths total at p k
-place-within true paths total path at even p k =
-    row-below (path / 2) (paths / 2) total at (omega (arith, even refl)) k
+-- the draws of a path are among those lent
+pub draws-within : (mirrored : Bool) (paths total path : ℕ) → (mirrored ≡ true → paths % 2 ≡ 0) → path < paths → drawPlace mirrored total (suc path) (suc total) ≤ drawsNeeded mirrored paths total
+draws-within false paths total path even p = row-last path paths total total p (le-refl total)
+draws-within true paths total path even p =
+    row-last (path / 2) (paths / 2) total total (omega (arith, even refl)) (le-refl total)
 
 -- an observation reads the factors in use
 pub observed-in-use : (o : Observed) (v : Vix) (n : ℕ) → v .n ≤ n → (s : State) → observationOf o (vixInUse v) (stateInUse (v .n) s) ≡ observationOf o (vixInUse v) (stateInUse n s)

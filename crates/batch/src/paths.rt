@@ -1,7 +1,8 @@
 // The path and step loops.
 ghost use mathlib.Core.Path.{_≡_};
 ghost use Prim.Native.Nat.{ℕ, suc, _+_, _*_, _<_, _≤_};
-ghost use lib.ListN.{length};
+ghost use lib.ListN.{length, getD};
+ghost use lib.Ieee.{nan};
 ghost use Rattle.model.specs.Step.{kernelInUse, stateInUse};
 ghost use Rattle.model.specs.Admitted.{Admitted};
 ghost use Rattle.vix.specs.Form.{vixInUse};
@@ -14,23 +15,35 @@ use model::Kernel;
 use model::RawParams;
 use model::Schedule;
 use model::State;
+use model::draws;
 use model::scheme;
 use vix::Vix;
+
+// The draw that a path takes after `at` of its `total` draws, which begin at place `first`. The
+// reader is lent the draws of this path alone.
+fn path_draw(draws: &[f64], first: usize, total: usize, at: usize) -> f64
+    requires { ⌜ (at < total) × (first + total ≤ length (now draws)) ⌝ }
+    ensures { λ r. ⌜ r ≡ getD (now (draws .entry)) (first + at) nan ⌝ }
+{
+    let end = first + total;
+    draws::take_draw(&draws[first..end], at)
+}
 
 // The draw of step `at` + 1 of path `path` + 1. In a mirrored batch two paths share their draws, and
 // the second has them negated.
 fn draw_at(mirrored: bool, draws: &[f64], total: usize, path: usize, at: usize) -> f64
-    requires { ⌜ drawPlace mirrored total (suc path) (suc at) < length (now draws) ⌝ }
+    requires { ⌜ at < total ⌝ }
+    requires { ⌜ drawPlace mirrored total (suc path) (suc total) ≤ length (now draws) ⌝ }
     ensures { λ r. ⌜ r ≡ drawOf mirrored (now (draws .entry)) total (suc path) (suc at) ⌝ }
 {
     if mirrored {
-        let g = draws[path / 2 * total + at];
+        let g = path_draw(draws, path / 2 * total, total, at);
         if path % 2 == 1 {
             return -g;
         }
         return g;
     }
-    draws[path * total + at]
+    path_draw(draws, path * total, total, at)
 }
 
 fn observe(observed: Observed, form: Vix, s: State) -> f64

@@ -12,6 +12,20 @@ use crate::Style;
 use refusal::Outcome;
 use refusal::Refusal;
 
+// The moments of these numbers, with one value more.
+fn with_value(count: f64, mean: f64, squared_deviations: f64, value: f64) -> Moments
+    ensures { λ r. ⌜ r ≡ withValue (record { count = count; mean = mean; «squared_deviations» = «squared_deviations» }) value ⌝ }
+{
+    let new_count = count + 1.0;
+    let deviation = value - mean;
+    let new_mean = mean + deviation / new_count;
+    Moments {
+        count: new_count,
+        mean: new_mean,
+        squared_deviations: squared_deviations + deviation * (value - new_mean),
+    }
+}
+
 impl Moments {
     // No value yet.
     pub fn new() -> Moments
@@ -24,19 +38,11 @@ impl Moments {
         }
     }
 
-    // With one value more.
-    pub fn add(self, value: f64) -> Moments
-        ensures { λ r. ⌜ r ≡ withValue self value ⌝ }
+    // Takes in one value more.
+    pub fn add(&mut self, value: f64)
+        ensures { λ _. ⌜ now (self .exit) ≡ withValue (now (self .entry)) value ⌝ }
     {
-        let count = self.count + 1.0;
-        let deviation = value - self.mean;
-        let mean = self.mean + deviation / count;
-        let squared_deviations = self.squared_deviations + deviation * (value - mean);
-        Moments {
-            count,
-            mean,
-            squared_deviations,
-        }
+        *self = with_value(self.count, self.mean, self.squared_deviations, value);
     }
 
     // The mean and its standard error.
@@ -49,6 +55,15 @@ impl Moments {
             error: numeric::sqrt(variance_of_mean),
         }
     }
+}
+
+// With one value more, added to a copy that is lent.
+pub fn added(m: Moments, value: f64) -> Moments
+    ensures { λ r. ⌜ r ≡ withValue m value ⌝ }
+{
+    let mut lent = m;
+    lent.add(value);
+    lent
 }
 
 // What a payoff pays on the spot or the index.
@@ -120,8 +135,8 @@ pub fn estimates(
     while path < paths {
         path += 1;
         let value = underlying_of(rooted, last_seen(seen, count, path));
-        payoffs = payoffs.add(payoff_of(payoff, value));
-        underlyings = underlyings.add(value);
+        payoffs = added(payoffs, payoff_of(payoff, value));
+        underlyings = added(underlyings, value);
     }
     Estimates {
         payoff: payoffs.estimate(),

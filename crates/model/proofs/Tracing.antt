@@ -42,6 +42,10 @@ pub record Given (k : Kernel) (p : RawParams) (start : State) (sched : Schedule)
   pub laid : Laid sched
   pub size : Sized (sched .total) (k .n) lent
 
+-- a step with the draw that was taken
+pub at-draw : (k : Kernel) (p : RawParams) (s : State) (dt root : Float) {g g′ : Float} {s′ : State} → g ≡ g′ → s′ ≡ step k p s g dt root → s′ ≡ step k p s g′ dt root
+at-draw k p s dt root drawn e = e ∙ ap (λ (d : Float). step k p s d dt root) drawn
+
 module _ {k : Kernel} {p : RawParams} {start : State} {sched : Schedule} {draws : List Float} {lent : Tables} (given : Given k p start sched draws lent) where
   pub trace-first : (rates : Rates) → RatesOf k (getD (sched .dt) 0 nan) (getD (sched .«sqrt_dt») 0 nan) rates → Tracing (walkOf k p start sched draws) k sched lent lent start 0 rates 0
   unfolding stateAfter stopWithin

@@ -4,6 +4,7 @@ use refusal::Outcome;
 use refusal::Quantity;
 
 pub mod doors;
+pub mod draws;
 pub mod scheme;
 pub mod trace;
 

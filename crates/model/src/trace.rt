@@ -10,6 +10,7 @@ use crate::RawParams;
 use crate::Schedule;
 use crate::State;
 use crate::Traced;
+use crate::draws;
 use crate::scheme;
 
 // The first n of `values`, at the places of a point.
@@ -80,7 +81,8 @@ pub fn walk(
         if at == total {
             return Traced::Done { steps: at as u64 };
         }
-        let next = scheme::step(k, p, s, draws[at], rates);
+        let g = draws::take_draw(draws, at);
+        let next = scheme::step(k, p, s, g, rates);
         let taken = at + 1;
         match scheme::ensure_finite(next) {
             Finiteness::NonFinite(quantity) => {

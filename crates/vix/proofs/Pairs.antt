@@ -21,7 +21,7 @@ unfolding pairsBefore
 more-rows n i zero = rw add-zero (omega arith)
 more-rows n i (suc d) = rw add-suc (omega (arith, more-rows n i d))
 
-fewer-rows : (n i j : ℕ) → i ≤ j → pairsBefore n i ≤ pairsBefore n j
+pub fewer-rows : (n i j : ℕ) → i ≤ j → pairsBefore n i ≤ pairsBefore n j
 fewer-rows n i j h = subst (λ (x : ℕ). pairsBefore n i ≤ pairsBefore n x) (add-sub-of-le h) (more-rows n i (j - i))
 
 -- a pair of row i is one of the pairs in use, and those are at most 55

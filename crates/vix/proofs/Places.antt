@@ -1,6 +1,6 @@
 -- The places of the state. Assumes nothing.
-use mathlib.Core.Path.{_≡_, sym, ap, _∙_}
-use Prim.Native.Nat.{ℕ, zero, suc, _+_, _-_, _*_, _<_, _≤_}
+use mathlib.Core.Path.{_≡_, sym, ap, subst, _∙_}
+use Prim.Native.Nat.{ℕ, zero, suc, _+_, _-_, _*_, _/_, _<_, _≤_}
 use native.Mathlib.Nat.{mul-suc, suc-mul, zero-mul, mul-le-mul, min-eq-left, min-eq-right, max-eq-left, max-eq-right}
 use native.Mathlib.Decide.{decLe}
 use native.Mathlib.Omega.{arith}
@@ -18,6 +18,13 @@ twice-pairs n (suc i) h =
     let less : 2 * n + 1 - i ≡ suc (2 * n + 1 - suc i) = omega arith in
     let more : i * (2 * n + 1 - i) ≡ i * (2 * n + 1 - suc i) + i = ap (λ (x : ℕ). i * x) less ∙ mul-suc i (2 * n + 1 - suc i) in
     omega (arith, suc-mul i (2 * n + 1 - suc i), more, twice-pairs n i (omega arith))
+
+-- the dimension as it is usually written
+pub dimension-is : (n : ℕ) → dimension n ≡ n + n * (n + 1) / 2 + 2
+dimension-is n =
+    let all : n ≤ n = omega arith in
+    let count : 2 * n + 1 - n ≡ n + 1 = omega arith in
+    omega (arith, sym (ap (λ (x : ℕ). n * x) count) ∙ twice-pairs n n all)
 
 pub product-small : {n i : ℕ} → n ≤ 10 → i ≤ n → i * (2 * n + 1 - i) ≤ 210
 product-small {n} {i} h l =
@@ -68,10 +75,15 @@ row-inside {n} {i} h =
     let one : n - i - 1 < n - i = omega arith in
     omega (arith, first-pair n i, pair-in-use n i (n - i - 1) h one)
 
--- ---- a matrix over the state has a place for each row
+-- ---- a matrix over the state, and the place of a row in it
+
+pub matrix-fits : {n dim : ℕ} → n ≤ 10 → dim ≡ dimension n → (dim ≤ 67) × (dim * dim ≤ 4489)
+matrix-fits few d =
+    let most = subst (λ (x : ℕ). x ≤ 67) (sym d) (dimension-most few) in
+    (most, small most)
 
 pub row-fits : {n r dim : ℕ} → dim ≡ dimension n → n ≤ 10 → r < dimension n → (dim ≤ 67) × (r * dim + dim ≤ dim * dim) × (dim * dim ≤ 4489)
 row-fits {n} {r} {dim} d few h =
     let inside : r < dim = omega arith in
-    let most : dim ≤ 67 = omega (arith, dimension-most few) in
-    (most, row-end inside, small most)
+    let size = matrix-fits few d in
+    (size .0, row-end inside, size .1)

@@ -4,12 +4,13 @@
 --   M_ij' = -(gamma_i + gamma_j) M_ij - lambda × sum over k of c_k (M_kj + M_ik) + eta² E[V]
 --   E[V]  = a × sum over k and l of c_k c_l M_kl - 2 a b × sum over k of c_k m_k + a b² + c
 -- and the integral w of E[V] follows w' = E[V]. Indices, rows and columns count from 0.
+use mathlib.Core.Path.{_≡_}
 use mathlib.Core.Bool.{false, cond}
 use mathlib.Core.List.{List, [], _∷_, _++_}
-use Prim.Native.Nat.{ℕ, zero, suc, _+_, _-_, min, max}
+use Prim.Native.Nat.{ℕ, zero, suc, _+_, _-_, _≤_, _<_, min, max}
 use lib.Dec.{eqb}
 use lib.IntN.{pos}
-use lib.ListN.{getD, replicate}
+use lib.ListN.{length, getD, replicate}
 use lib.Ieee.{Float, nan, fin, add, mul, neg}
 use Rattle.numeric.specs.Double.{plus, times, one, plusZero}
 use Rattle.numeric.specs.Table.{tabulate}
@@ -25,7 +26,7 @@ unfoldable pub joined : (ℕ → List Float) → ℕ → List Float
 joined f zero = []
 joined f (suc n) = joined f n ++ f n
 
--- what there is for each pair (i, j) with i ≤ j: for the first k pairs of row i, and for those of the first i rows
+-- what there is for each pair (i, j) with i ≤ j: for the first k pairs of row i, and for those of the first i rows, of n factors
 unfoldable pub pairsOfRow : (ℕ → ℕ → List Float) → ℕ → ℕ → List Float
 unfolding joined
 pairsOfRow pair i k = joined (λ m. pair i (i + m)) k
@@ -39,7 +40,7 @@ unfoldable pub inStateOrder : ℕ → (ℕ → List Float) → (ℕ → ℕ → 
 unfolding joined pairsOfRows
 inStateOrder n mean pair integral constant = joined mean n ++ pairsOfRows pair n n ++ integral ++ constant
 
--- where they stand in it: mean i at i; the pair of i and j, in either order; the integral; the constant
+-- where they stand in it: mean i at i; the pair of i and j, in either order; the integral; the constant. `proofs/Order.antt` proves it (`InOrder`).
 abbrev pub pairAt : ℕ → ℕ → ℕ → ℕ
 pairAt n i j = n + pairsBefore n (min i j) + (max i j - min i j)
 
@@ -49,8 +50,17 @@ integralAt n = n + pairsBefore n n
 abbrev pub constantAt : ℕ → ℕ
 constantAt n = integralAt n + 1
 
+-- which is n + n × (n + 1) / 2 + 2 (`proofs/Places.antt`, dimension-is)
 abbrev pub dimension : ℕ → ℕ
 dimension n = integralAt n + 2
+
+pub record InOrder (n : ℕ) (mean : ℕ → Float) (pair : ℕ → ℕ → Float) (integral constant : Float) (row : List Float) : Type 0 where
+  pub mean-at : (i : ℕ) → i < n → getD row i nan ≡ mean i
+  pub pair-at : (i j : ℕ) → i ≤ j → j < n → getD row (pairAt n i j) nan ≡ pair i j
+  pub same-pair : (i j : ℕ) → pairAt n j i ≡ pairAt n i j
+  pub integral-at : getD row (integralAt n) nan ≡ integral
+  pub constant-at : getD row (constantAt n) nan ≡ constant
+  pub long : length row ≡ dimension n
 
 -- ---- E[V] as a row over the state
 
@@ -84,8 +94,9 @@ varianceRow k p =
     inStateOrder (k .n) (λ i. meanCoefficient k p i ∷ []) (λ i j. pairCoefficient k p i j ∷ []) (plusZero ∷ [])
     (constantCoefficient p ∷ [])
 
--- ---- "The generator is filled in the additions' order": each entry begins at 0.0, and what is added at a column is added to the entry of that column
+-- ---- "The generator is filled in the additions' order": each entry begins at 0.0
 
+-- what the entry of a column becomes where a value is added at column `at`
 unfoldable pub addedAt : ℕ → Float → ℕ → Float → Float
 unfolding add
 addedAt at value column sum = cond (eqb column at) (plus sum value) sum
@@ -95,7 +106,7 @@ unfoldable pub pull : Kernel → RawParams → ℕ → Float
 unfolding mul neg
 pull k p m = times (neg (p .lambda)) (weight k m)
 
--- the row of mean i: -discount at its own column, then the pull of each mean m, here of the first k of them
+-- the row of mean i: -discount at its own column, then (-lambda) × weight at each mean; an entry of it after so many of these
 unfoldable pub meanEntry : Kernel → RawParams → ℕ → ℕ → ℕ → Float
 unfolding addedAt pull neg
 meanEntry k p i column zero = addedAt i (neg (discount k i)) column plusZero
@@ -105,7 +116,7 @@ unfoldable pub meanRow : Kernel → RawParams → ℕ → List Float
 unfolding tabulate meanEntry pairsBefore
 meanRow k p i = tabulate (dimension (k .n)) (λ column. meanEntry k p i column (k .n))
 
--- the row of the pair (i, j): -(discount + discount) at its own column, then for each m its pull at the pairs (m, j) and (i, m)
+-- the row of the pair (i, j): -(discount + discount) at its own column, then for each m (-lambda) × weight at the pairs (m, j) and (i, m)
 unfoldable pub driftEntry : Kernel → RawParams → ℕ → ℕ → ℕ → ℕ → Float
 unfolding addedAt pull add neg pairsBefore
 driftEntry k p i j column zero =
@@ -114,7 +125,7 @@ driftEntry k p i j column (suc m) =
     addedAt (pairAt (k .n) i m) (pull k p m) column
     (addedAt (pairAt (k .n) m j) (pull k p m) column (driftEntry k p i j column m))
 
--- and last eta² × E[V] at every column
+-- and at last eta² × E[V] at every column
 unfoldable pub pairRow : Kernel → RawParams → ℕ → ℕ → List Float
 unfolding tabulate driftEntry varianceRow add mul pairsBefore
 pairRow k p i j =

@@ -99,7 +99,7 @@ pub fn dimension_of(n: usize) -> usize
     requires { ⌜ n ≤ 10 ⌝ }
     ensures { λ r. ⌜ r ≡ dimension n ⌝ }
 {
-    state::integral(n) + 2
+    n + state::pairs_before(n, n) + 2
 }
 
 // The form over a window, by the exponential of the moment system's generator. work is 5 × dimension²

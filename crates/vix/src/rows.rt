@@ -125,7 +125,7 @@ pub(crate) fn pair_row(
     requires { ⌜ take (dimension (k .n)) variance ≡ varianceRow (kernelInUse k) p ⌝ }
     ensures { λ r. ⌜ take (dimension (k .n)) r ≡ pairRow (kernelInUse k) p i j ⌝ }
 {
-    let dim = state::integral(k.n) + 2;
+    let dim = crate::dimension_of(k.n);
     let eta_squared = p.eta * p.eta;
     let mut row = drift_row(k, p, i, j);
     let mut column: usize = 0;

@@ -3,7 +3,7 @@
 ghost use mathlib.Core.Path.{_≡_};
 ghost use Prim.Native.Nat.{_≤_, _<_};
 ghost use Rattle.vix.specs.Form.{pairsBefore};
-ghost use Rattle.vix.specs.Generator.{pairAt, integralAt};
+ghost use Rattle.vix.specs.Generator.{pairAt};
 
 // n + (n - 1) + .. over the first i rows.
 pub(crate) fn pairs_before(n: usize, i: usize) -> usize
@@ -23,11 +23,4 @@ pub(crate) fn pair(n: usize, i: usize, j: usize) -> usize
     } else {
         n + pairs_before(n, j) + (i - j)
     }
-}
-
-pub(crate) fn integral(n: usize) -> usize
-    requires { ⌜ n ≤ 10 ⌝ }
-    ensures { λ r. ⌜ r ≡ integralAt n ⌝ }
-{
-    n + pairs_before(n, n)
 }

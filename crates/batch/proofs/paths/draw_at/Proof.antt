@@ -1,72 +1,65 @@
 -- `batch::paths::draw_at` meets its contract. Assumes nothing.
 use mathlib.Core.Path.{_≡_, sym, ap, subst, _∙_}
-use mathlib.Core.Bool.{Bool}
-use Prim.Native.Nat.{suc, _+_, _*_, _/_, _%_, _<_}
+use mathlib.Core.Bool.{Bool, true, false}
+use mathlib.Core.List.{List}
+use Prim.Native.Nat.{ℕ, suc, _+_, _*_, _/_, _%_, _≤_}
 use native.Mathlib.Omega.{arith}
 use borrow.Author.Tests.{eq-eqb, ne-eqb}
-use lib.ListN.{length}
+use lib.ListN.{length, getD}
+use lib.Ieee.{Float, nan, neg}
 use Rattle.batch.specs.Batch.{drawPlace, drawOf}
 use Rattle.batch.proofs.paths.draw_at.Statement.{statement}
 use Rattle.batch.proofs.paths.draw_at.Tie as tie
 
--- the place read is among the draws
-mirrored : (c : tie.Then1) → c .before .args .path / 2 * c .before .args .total + c .before .args .at < length (c .before .args .draws .now)
+-- the draw, by the kind of the batch and the path's place in its pair
+module _ (kind : Bool) (draws : List Float) (total path at : ℕ) {g : Float} where
+  plain-draw : kind ≡ false → g ≡ getD draws (path * total + at) nan → g ≡ drawOf kind draws total (suc path) (suc at)
+  plain-draw is e = e ∙ sym (ap (λ (m : Bool). drawOf m draws total (suc path) (suc at)) is)
+
+  first-draw : kind ≡ true → (suc path % 2 ≡ 0 → ⊥) → g ≡ getD draws (path / 2 * total + at) nan → g ≡ drawOf kind draws total (suc path) (suc at)
+  first-draw is odd e = e ∙ sym (ap (λ (m : Bool). drawOf m draws total (suc path) (suc at)) is ∙ rw (ne-eqb _ _ odd))
+
+  second-draw : kind ≡ true → suc path % 2 ≡ 0 → g ≡ getD draws (path / 2 * total + at) nan → neg g ≡ drawOf kind draws total (suc path) (suc at)
+  second-draw is even e = ap neg e ∙ sym (ap (λ (m : Bool). drawOf m draws total (suc path) (suc at)) is ∙ rw (eq-eqb _ _ even))
+
+-- the path's draws are among those lent
+mirrored : (c : tie.Then1) → c .before .before .args .path / 2 * c .before .before .args .total + c .before .before .args .total ≤ length (c .before .before .args .draws .now)
 mirrored c =
-    subst (λ (m : Bool). drawPlace m (c .before .args .total) (suc (c .before .args .path)) (suc (c .before .args .at)) < length (c .before .args .draws .now)) (c .if1 .taken) (c .before .pre)
+    subst (λ (m : Bool). drawPlace m (c .before .before .args .total) (suc (c .before .before .args .path)) (suc (c .before .before .args .total)) ≤ length (c .before .before .args .draws .now)) (c .if1 .taken) (c .before .before .pre .1)
 
-plain : (c : tie.Else1) → c .before .args .path * c .before .args .total + c .before .args .at < length (c .before .args .draws .now)
+plain : (c : tie.Else1) → c .before .before .args .path * c .before .before .args .total + c .before .before .args .total ≤ length (c .before .before .args .draws .now)
 plain c =
-    subst (λ (m : Bool). drawPlace m (c .before .args .total) (suc (c .before .args .path)) (suc (c .before .args .at)) < length (c .before .args .draws .now)) (c .if1 .left) (c .before .pre)
+    subst (λ (m : Bool). drawPlace m (c .before .before .args .total) (suc (c .before .before .args .path)) (suc (c .before .before .args .total)) ≤ length (c .before .before .args .draws .now)) (c .if1 .left) (c .before .before .pre .1)
 
-mul-g : tie.Need-mul-g
-mul-g c = omega (arith, mirrored c)
+mul-path-draw : tie.Need-mul-path-draw
+mul-path-draw c = omega (arith, mirrored c)
 
-add-g : tie.Need-add-g
-add-g c = omega (arith, mirrored c)
-
-mul-g-2 : tie.Need-mul-g-2
-mul-g-2 c = omega (arith, mirrored c)
-
-shared-slice-read-g : tie.Need-shared-slice-read-g
-shared-slice-read-g c = mirrored (c .before)
+path-draw-requires : tie.Need-path-draw-requires
+path-draw-requires c κs = (c .before .before .pre .0, mirrored c)
 
 returns : tie.Need-returns
-returns c =
-    let even : suc (c .before .before .before .args .path) % 2 ≡ 0 = omega (arith, c .if2 .taken) in
-    sym (ap (λ (m : Bool). drawOf m (c .before .before .before .args .draws .now) (c .before .before .before .args .total) (suc (c .before .before .before .args .path)) (suc (c .before .before .before .args .at))) (c .before .before .if1 .taken) ∙ rw (eq-eqb _ _ even))
+returns c = let a = c .before .before .before .before .args in second-draw (a .mirrored) (a .draws .now) (a .total) (a .path) (a .at) (c .before .before .if1 .taken) (omega (arith, c .if2 .taken)) (c .before .path-draw .ensures)
 
 returns-2 : tie.Need-returns-2
-returns-2 c =
-    let odd : suc (c .before .before .before .args .path) % 2 ≡ 0 → ⊥ = λ e. omega (arith, c .if2 .left) in
-    sym (ap (λ (m : Bool). drawOf m (c .before .before .before .args .draws .now) (c .before .before .before .args .total) (suc (c .before .before .before .args .path)) (suc (c .before .before .before .args .at))) (c .before .before .if1 .taken) ∙ rw (ne-eqb _ _ odd))
+returns-2 c = let a = c .before .before .before .before .args in first-draw (a .mirrored) (a .draws .now) (a .total) (a .path) (a .at) (c .before .before .if1 .taken) (λ e. omega (arith, c .if2 .left)) (c .before .path-draw .ensures)
 
-mul-result : tie.Need-mul-result
-mul-result c = omega (arith, plain c)
+mul-path-draw-2 : tie.Need-mul-path-draw-2
+mul-path-draw-2 c = omega (arith, plain c)
 
-add-result : tie.Need-add-result
-add-result c = omega (arith, plain c)
-
-mul-result-2 : tie.Need-mul-result-2
-mul-result-2 c = omega (arith, plain c)
-
-shared-slice-read-result : tie.Need-shared-slice-read-result
-shared-slice-read-result c = plain (c .before)
+path-draw-requires-2 : tie.Need-path-draw-requires-2
+path-draw-requires-2 c κs = (c .before .before .pre .0, plain c)
 
 returns-3 : tie.Need-returns-3
-returns-3 c = sym (ap (λ (m : Bool). drawOf m (c .before .before .args .draws .now) (c .before .before .args .total) (suc (c .before .before .args .path)) (suc (c .before .before .args .at))) (c .before .if1 .left))
+returns-3 c = let a = c .before .before .before .args in plain-draw (a .mirrored) (a .draws .now) (a .total) (a .path) (a .at) (c .before .if1 .left) (c .path-draw2 .ensures)
 
 pub draw-at-spec : {M : Type 1} → statement M
 draw-at-spec =
     tie.close
     (tie.spec
-    mul-g
-    add-g
-    mul-g-2
-    shared-slice-read-g
+    mul-path-draw
+    path-draw-requires
     returns
     returns-2
-    mul-result
-    add-result
-    mul-result-2
-    shared-slice-read-result
+    mul-path-draw-2
+    path-draw-requires-2
     returns-3)

@@ -18,7 +18,7 @@ use Rattle.model.specs.Step.{step, finiteness, kernelInUse, stateInUse}
 use Rattle.model.proofs.Laws.{rates-own}
 use Rattle.model.proofs.Containment.{laid-in-use, reached-open}
 use Rattle.batch.specs.Batch.{batchOf, drawOf}
-use Rattle.batch.proofs.Handed.{zero-bits, finite-in-use, place-within, observed-in-use, step-in-use}
+use Rattle.batch.proofs.Handed.{zero-bits, finite-in-use, draws-within, observed-in-use, step-in-use}
 use Rattle.batch.proofs.Turns.{Inner, Outer, Small, small, turn-first, next-state, raised, left-low, count-up, count-left, turn-on, turn-write, path-first, path-next, run-ends, entries-end, run-done, entries-done}
 use Rattle.batch.proofs.Whole.{whole}
 use Rattle.batch.proofs.Claim.{with-claim}
@@ -95,9 +95,11 @@ small-at c =
     small (laid-at (entry (path-of c))) (c .before .loop .inv .0) (entry (path-of c) .pre .0 .most) (path-of c .paths-test .taken) (c .loop-test .taken)
 
 draw-at-requires : tie.Need-draw-at-requires Inv-loop μ-loop Inv-paths μ-paths
-draw-at-requires c κs =
-    rw (entry (path-of c) .pre .0 .drawn)
-    (place-within (entry (path-of c) .args .mirrored) _ _ _ _ (entry (path-of c) .pre .0 .pairs) (path-of c .paths-test .taken) (c .loop-test .taken))
+draw-at-requires c κs = (
+  c .loop-test .taken,
+  rw (entry (path-of c) .pre .0 .drawn)
+      (draws-within (entry (path-of c) .args .mirrored) _ _ _ (entry (path-of c) .pre .0 .pairs) (path-of c .paths-test .taken)),
+)
 
 step-requires : tie.Need-step-requires Inv-loop μ-loop Inv-paths μ-paths
 step-requires c κs =

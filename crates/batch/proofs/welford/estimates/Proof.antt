@@ -53,11 +53,11 @@ underlying-of-requires c κs = search needs
 payoff-of-requires : tie.Need-payoff-of-requires Inv-loop μ-loop
 payoff-of-requires c κs = search needs
 
-add-requires : tie.Need-add-requires Inv-loop μ-loop
-add-requires c κs = search needs
+added-requires : tie.Need-added-requires Inv-loop μ-loop
+added-requires c κs = search needs
 
-add-requires-2 : tie.Need-add-requires-2 Inv-loop μ-loop
-add-requires-2 c κs = search needs
+added-requires-2 : tie.Need-added-requires-2 Inv-loop μ-loop
+added-requires-2 c κs = search needs
 
 loop-less : tie.Need-loop-less Inv-loop μ-loop
 loop-less c = omega arith
@@ -71,8 +71,8 @@ loop-again c =
     here .underlying-of .ensures ∙ ap (underlyingOf (start at .args .rooted)) (here .before .last-seen .ensures)
     in (
       omega arith,
-      moments-more (paid at) i (at .loop .inv .1) (c .before .before .payoff-of .ensures ∙ ap (payoffOf _) value) (c .before .add .ensures),
-      moments-more (underlying at) i (at .loop .inv .2) value (c .add2 .ensures),
+      moments-more (paid at) i (at .loop .inv .1) (c .before .before .payoff-of .ensures ∙ ap (payoffOf _) value) (c .before .added .ensures),
+      moments-more (underlying at) i (at .loop .inv .2) value (c .added2 .ensures),
     )
 
 estimate-requires : tie.Need-estimate-requires Inv-loop μ-loop
@@ -104,8 +104,8 @@ estimates-spec =
     last-seen-requires
     underlying-of-requires
     payoff-of-requires
-    add-requires
-    add-requires-2
+    added-requires
+    added-requires-2
     loop-less
     loop-again
     estimate-requires

@@ -8,7 +8,7 @@ use Rattle.model.specs.Trace.{Tables, tables, walkOf}
 use Rattle.model.proofs.Laws.{rates-own}
 use Rattle.model.proofs.Containment.{reached-open}
 use Rattle.model.proofs.Points.{AllThrough, point-fits, factors-fit}
-use Rattle.model.proofs.Tracing.{Tracing, Given, trace-first, trace-point, done-answer, done-tables, stop-answer, stop-tables, trace-on, trace-next}
+use Rattle.model.proofs.Tracing.{Tracing, Given, at-draw, trace-first, trace-point, done-answer, done-tables, stop-answer, stop-tables, trace-on, trace-next}
 use Rattle.model.proofs.trace.walk.Statement.{statement}
 use Rattle.model.proofs.trace.walk.Tie as tie
 
@@ -108,11 +108,8 @@ inside c =
 small : (c : tie.Else1 Inv-loop μ-loop) → c .before .before .before .before .before .before .before .before .before .before .before .before .before .before .loop .at < 4096
 small c = omega (arith, unfinished c, c .before .before .before .before .before .before .before .before .before .before .before .before .before .before .before .before .before .before .before .before .before .pre .1 .0 .short)
 
-mul-step : tie.Need-mul-step Inv-loop μ-loop
-mul-step c = omega (arith, small c)
-
-shared-slice-read-step : tie.Need-shared-slice-read-step Inv-loop μ-loop
-shared-slice-read-step c = omega (arith, unfinished (c .before), c .before .before .before .before .before .before .before .before .before .before .before .before .before .before .before .before .before .before .before .before .before .before .pre .1 .1 .0)
+take-draw-requires : tie.Need-take-draw-requires Inv-loop μ-loop
+take-draw-requires c κs = omega (arith, unfinished c, entry (head (c .before)) .pre .1 .1 .0)
 
 step-requires : tie.Need-step-requires Inv-loop μ-loop
 step-requires c κs = (c .before .before .before .before .before .before .before .before .before .before .before .before .before .before .before .before .before .before .before .before .before .before .pre .0 .1, rates-own _ _ _ _ (c .before .before .before .before .before .before .before .before .before .before .before .before .before .before .before .loop .inv .rated))
@@ -143,7 +140,7 @@ returns-2 c =
     let asked = c .before .before .before in
     let start = entry (head (point asked)) in
     let inv = head (point asked) .loop .inv in
-    let stepped = asked .before .step .ensures in
+    let stepped = at-draw _ _ _ _ _ (asked .before .before .take-draw .ensures) (asked .before .step .ensures) in
     let early = unfinished (asked .before .before .before) in
     let fails = sym (asked .ensure-finite .ensures) ∙ c .before .quantity .given .1 in (
       stop-answer (given start) inv early _ stepped _ fails,
@@ -172,7 +169,7 @@ loop-again : tie.Need-loop-again Inv-loop μ-loop
 loop-again c =
     let asked = c .before .before .before .before .before in
     let start = entry (head (point asked)) in
-    trace-next (given start) (head (point asked) .loop .inv) (unfinished (asked .before .before .before)) _ (asked .before .step .ensures) (sym (asked .ensure-finite .ensures) ∙ c .before .before .before .enum-told .given .1) (left (point asked)) (written (point asked)) (c .before .if2 .taken) _ (c .rates-at2 .ensures)
+    trace-next (given start) (head (point asked) .loop .inv) (unfinished (asked .before .before .before)) _ (at-draw _ _ _ _ _ (asked .before .before .take-draw .ensures) (asked .before .step .ensures)) (sym (asked .ensure-finite .ensures) ∙ c .before .before .before .enum-told .given .1) (left (point asked)) (written (point asked)) (c .before .if2 .taken) _ (c .rates-at2 .ensures)
 
 loop-less-2 : tie.Need-loop-less-2 Inv-loop μ-loop
 loop-less-2 c = omega (arith, unfinished (c .before .before .before .before .before .before .before))
@@ -181,7 +178,7 @@ loop-again-2 : tie.Need-loop-again-2 Inv-loop μ-loop
 loop-again-2 c =
     let asked = c .before .before .before .before in
     let start = entry (head (point asked)) in
-    trace-on (given start) (head (point asked) .loop .inv) (unfinished (asked .before .before .before)) _ (asked .before .step .ensures) (sym (asked .ensure-finite .ensures) ∙ c .before .before .enum-told .given .1) (left (point asked)) (written (point asked)) (c .if2 .left)
+    trace-on (given start) (head (point asked) .loop .inv) (unfinished (asked .before .before .before)) _ (at-draw _ _ _ _ _ (asked .before .before .take-draw .ensures) (asked .before .step .ensures)) (sym (asked .ensure-finite .ensures) ∙ c .before .before .enum-told .given .1) (left (point asked)) (written (point asked)) (c .if2 .left)
 
 pub walk-spec : {M : Type 1} → statement M
 walk-spec =
@@ -197,8 +194,7 @@ walk-spec =
     same-length-3
     same-length-4
     returns
-    mul-step
-    shared-slice-read-step
+    take-draw-requires
     step-requires
     add-taken
     ensure-finite-requires

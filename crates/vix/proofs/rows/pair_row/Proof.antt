@@ -8,7 +8,7 @@ use lib.Seq.{getD-set-other}
 use lib.Ieee.{Float, nan}
 use Rattle.numeric.specs.Double.{plus, times}
 use Rattle.numeric.proofs.Tables.{fill-next}
-use Rattle.vix.proofs.Places.{integral-most}
+use Rattle.vix.proofs.Places.{dimension-most}
 use Rattle.vix.proofs.Additions.{pair-all}
 use Rattle.vix.proofs.rows.pair_row.Statement.{statement}
 use Rattle.vix.proofs.rows.pair_row.Tie as tie
@@ -19,11 +19,8 @@ Inv-loop i j variance dim eta-squared row₀ column₀ row column = (column ≤ 
 abbrev μ-loop : tie.MeasureT-loop
 μ-loop i j variance dim eta-squared row₀ column₀ row column = dim - column
 
-integral-requires : tie.Need-integral-requires Inv-loop μ-loop
-integral-requires c κs = search needs
-
-add-dim : tie.Need-add-dim Inv-loop μ-loop
-add-dim c = omega (arith, c .integral .ensures, integral-most (c .before .pre .0 .0))
+dimension-of-requires : tie.Need-dimension-of-requires Inv-loop μ-loop
+dimension-of-requires c κs = search needs
 
 drift-row-requires : tie.Need-drift-row-requires Inv-loop μ-loop
 drift-row-requires c κs = search needs
@@ -31,7 +28,7 @@ drift-row-requires c κs = search needs
 loop-holds : tie.Need-loop-holds Inv-loop μ-loop
 loop-holds c = (
   omega arith,
-  omega (arith, c .before .before .integral .ensures, integral-most (c .before .before .before .pre .0 .0)),
+  omega (arith, c .before .before .dimension-of .ensures, dimension-most (c .before .before .before .pre .0 .0)),
   search needs,
   search needs,
   (λ x b. absurd (omega arith)),
@@ -82,7 +79,7 @@ returns c =
     let start = c .before .before .before .before .before in
     pair-all (start .args .k) (start .args .p) (start .args .i) (start .args .j) (start .args .t3) (c .before .before .drift-row .result) (c .before .loop .row)
     (c .before .loop .inv .3) (start .pre .0 .0) (start .pre .1) (c .before .before .drift-row .ensures)
-    (λ column b. c .before .loop .inv .4 column (omega (arith, c .before .before .before .before .integral .ensures)))
+    (λ column b. c .before .loop .inv .4 column (omega (arith, c .before .before .before .before .dimension-of .ensures)))
 
 pub pair-row-spec : {M : Type 1} → statement M
 pair-row-spec =
@@ -90,8 +87,7 @@ pair-row-spec =
     (tie.spec
     Inv-loop
     μ-loop
-    integral-requires
-    add-dim
+    dimension-of-requires
     drift-row-requires
     loop-holds
     mul-row
