@@ -1,14 +1,20 @@
 // Runs the checked figures of document 01, and compares each with what it should be.
 use libc::STDOUT_FILENO;
 
+mod batch;
 mod given;
+mod matrix;
 mod report;
 mod scalar;
 mod trace;
+mod vix;
 
 fn main() {
     let mut wrong = scalar::figures(0);
     wrong = trace::figures(wrong);
+    wrong = batch::figures(wrong);
+    wrong = matrix::figures(wrong);
+    wrong = vix::figures(wrong);
     io::print_decimal(STDOUT_FILENO, wrong);
     io::write_all(STDOUT_FILENO, b" wrong\n");
 }

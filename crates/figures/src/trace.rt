@@ -5,7 +5,6 @@ use crate::given::two_segments;
 use crate::report::is_at;
 use crate::report::same;
 use crate::report::tell;
-use terminal::TraceAnswer;
 
 // 2^90, and the doubles next to 1.
 const TWO_90: f64 = 1237940039285380274899124224.0;
@@ -14,15 +13,25 @@ const ABOVE_ONE: f64 = 1.0000000000000002;
 
 const BELOW_ONE: f64 = 0.9999999999999999;
 
-// Whether one step with this draw leads to this spot, factor and z, and variance.
-fn one_step(draw: f64, spot: f64, z: f64, variance: f64) -> bool {
+// What a trace of one step answers, and its second point.
+struct Step {
+    number: u32,
+    place: [u64; 4],
+    spot: f64,
+    factor: f64,
+    z: f64,
+    variance: f64,
+}
+
+// One step with this weight, discount and draw.
+fn one_step(weight: f64, discount: f64, draw: f64) -> Step {
     let mut spots = [0.0; 2];
     let mut variances = [0.0; 2];
     let mut zs = [0.0; 2];
     let mut factors = [0.0; 2];
     let answer = terminal::qrh_trace(
-        &[1.0],
-        &[4.0],
+        &[weight],
+        &[discount],
         params(1, 1, 0),
         segment(1),
         &[draw],
@@ -31,53 +40,48 @@ fn one_step(draw: f64, spot: f64, z: f64, variance: f64) -> bool {
         &mut zs,
         &mut factors,
     );
-    (answer.number == 0)
-        & (answer.steps == 1)
-        & same(spots[1], spot)
-        & same(factors[1], z)
-        & same(zs[1], z)
-        & same(variances[1], variance)
+    let place = answer.place;
+    Step {
+        number: answer.number,
+        place: place,
+        spot: spots[1],
+        factor: factors[1],
+        z: zs[1],
+        variance: variances[1],
+    }
 }
 
-// One step with this weight and discount.
-fn one_factor(weight: f64, discount: f64) -> TraceAnswer {
-    let mut spots = [0.0; 2];
-    let mut variances = [0.0; 2];
-    let mut zs = [0.0; 2];
-    let mut factors = [0.0; 2];
-    terminal::qrh_trace(
-        &[weight],
-        &[discount],
-        params(1, 1, 0),
-        segment(1),
-        &[0.5],
-        &mut spots,
-        &mut variances,
-        &mut zs,
-        &mut factors,
-    )
+// Whether a draw leads to this spot, factor and z, and variance.
+fn leads_to(draw: f64, spot: f64, z: f64, variance: f64) -> bool {
+    let step = one_step(1.0, 4.0, draw);
+    (step.number == 0)
+        & same(step.spot, spot)
+        & same(step.factor, z)
+        & same(step.z, z)
+        & same(step.variance, variance)
 }
 
 fn passes(weight: f64, discount: f64) -> bool {
-    one_factor(weight, discount).number == 0
+    one_step(weight, discount, 0.5).number == 0
 }
 
 // Whether question 4 turns the weight or the discount away: table 1 or 2, place 1 there.
 fn is_out_of_range(weight: f64, discount: f64, table: u64) -> bool {
-    let answer = one_factor(weight, discount);
-    let place = answer.place;
-    (answer.number == 4) & is_at(place, table, 1, 0, 0)
+    let step = one_step(weight, discount, 0.5);
+    let place = step.place;
+    (step.number == 4) & is_at(place, table, 1, 0, 0)
 }
 
-fn ten_factors() -> bool {
+// The number that a step with these weights and discounts, and as many factors, is answered by.
+fn number_of(weights: &[f64], discounts: &[f64]) -> u32 {
     let mut spots = [0.0; 2];
     let mut variances = [0.0; 2];
     let mut zs = [0.0; 2];
     let mut factors = [0.0; 20];
     let answer = terminal::qrh_trace(
-        &[1.0; 10],
-        &[1.0; 10],
-        params(1, 10, 0),
+        weights,
+        discounts,
+        params(1, weights.len(), 0),
         segment(1),
         &[0.5],
         &mut spots,
@@ -85,30 +89,12 @@ fn ten_factors() -> bool {
         &mut zs,
         &mut factors,
     );
-    (answer.number == 0) & (answer.steps == 1)
+    answer.number
 }
 
-fn eleven_factors() -> bool {
-    let mut spots = [0.0; 2];
-    let mut variances = [0.0; 2];
-    let mut zs = [0.0; 2];
-    let mut factors = [0.0; 22];
-    let answer = terminal::qrh_trace(
-        &[1.0; 11],
-        &[1.0; 11],
-        params(1, 11, 0),
-        segment(1),
-        &[0.5],
-        &mut spots,
-        &mut variances,
-        &mut zs,
-        &mut factors,
-    );
-    answer.number == 2
-}
-
-// As many steps of draw 0, which leave the spot at 100.
-fn many_steps() -> bool {
+// Whether so many steps, with 4,096 draws of 0, which leave the spot at 100, are answered by a number
+// with a place, and end at that spot.
+fn many_steps(steps: u32, number: u32, segment_at: u64, spot: f64) -> bool {
     let mut spots = [0.0; 4097];
     let mut variances = [0.0; 4097];
     let mut zs = [0.0; 4097];
@@ -117,37 +103,18 @@ fn many_steps() -> bool {
         &[1.0],
         &[4.0],
         params(1, 1, 0),
-        segment(4096),
+        segment(steps),
         &[0.0; 4096],
         &mut spots,
         &mut variances,
         &mut zs,
         &mut factors,
     );
-    (answer.number == 0) & (answer.steps == 4096) & same(spots[4096], 100.0)
-}
-
-fn too_many_steps() -> bool {
-    let mut spots = [0.0; 4098];
-    let mut variances = [0.0; 4098];
-    let mut zs = [0.0; 4098];
-    let mut factors = [0.0; 4098];
-    let answer = terminal::qrh_trace(
-        &[1.0],
-        &[4.0],
-        params(1, 1, 0),
-        segment(4097),
-        &[0.0; 4097],
-        &mut spots,
-        &mut variances,
-        &mut zs,
-        &mut factors,
-    );
     let place = answer.place;
-    (answer.number == 14) & is_at(place, 1, 0, 0, 0)
+    (answer.number == number) & is_at(place, segment_at, 0, 0, 0) & same(spots[4096], spot)
 }
 
-// Draws 0 from factor 1: a step takes z to (z - z * dt) / (1 + 4 * dt), exactly.
+// Draws of 0 from factor 1: a step takes z to (z - z * dt) / (1 + 4 * dt), exactly.
 fn uses_own_dt() -> bool {
     let mut spots = [0.0; 6];
     let mut variances = [0.0; 6];
@@ -209,18 +176,30 @@ pub fn figures(wrong: u64) -> u64 {
     let mut wrong = wrong;
     wrong = tell(
         b"P7: draw 0.5: spot 150, factor and z 0.25, variance 4.0625",
-        one_step(0.5, 150.0, 0.25, 4.0625),
+        leads_to(0.5, 150.0, 0.25, 4.0625),
         wrong,
     );
     wrong = tell(
         b"P8: draw -1: spot 0, z -0.5, variance 4.25",
-        one_step(-1.0, 0.0, -0.5, 4.25),
+        leads_to(-1.0, 0.0, -0.5, 4.25),
         wrong,
     );
-    wrong = tell(b"10 factors pass", ten_factors(), wrong);
-    wrong = tell(b"11 factors: 2", eleven_factors(), wrong);
-    wrong = tell(b"4,096 steps pass", many_steps(), wrong);
-    wrong = tell(b"4,097 steps: 14, segment 1", too_many_steps(), wrong);
+    wrong = tell(
+        b"10 factors pass",
+        number_of(&[1.0; 10], &[1.0; 10]) == 0,
+        wrong,
+    );
+    wrong = tell(
+        b"11 factors: 2",
+        number_of(&[1.0; 11], &[1.0; 11]) == 2,
+        wrong,
+    );
+    wrong = tell(b"4,096 steps pass", many_steps(4096, 0, 0, 100.0), wrong);
+    wrong = tell(
+        b"4,097 steps: 14, segment 1",
+        many_steps(4097, 14, 1, 0.0),
+        wrong,
+    );
     wrong = tell(
         b"segments (0.25, 2), (0.5, 3): step 2 uses 0.25, step 3 uses 0.5",
         uses_own_dt(),

@@ -1,7 +1,7 @@
 // The cases of a file, one after another.
-use crate::outcome::Replayed;
+use crate::exponential;
+use crate::modelled;
 use crate::scalar;
-use crate::trace;
 use crate::words::END;
 use crate::words::after;
 use crate::words::after_list;
@@ -10,6 +10,9 @@ use std::num::wrapping_add_u64;
 
 // The first word of a file: the bytes QRHCASE1.
 const MARK: u64 = 0x3145_5341_4348_5251;
+
+// The place of the first case. A case is laid out as a list is: the number of its words, and those.
+const FIRST: usize = 2;
 
 // What came of the cases of one call: how many there are, how many of them differed from the record,
 // and the first that did, counted from 1 over all cases of the file.
@@ -24,9 +27,6 @@ pub fn count(file: &[u8]) -> u64 {
     word(file, 1)
 }
 
-// The place of the first case. A case is laid out as a list is: the number of its words, and those.
-const FIRST: usize = 2;
-
 // Whether the file is made of its mark, the count and that many cases.
 pub fn is_whole(file: &[u8]) -> bool {
     let cases = count(file);
@@ -39,37 +39,29 @@ pub fn is_whole(file: &[u8]) -> bool {
         at = after_list(file, at);
         case += 1;
     }
-    file.len() % 8 == 0 && file.len() / 8 == at
+    (file.len() % 8 == 0) & (file.len() / 8 == at)
 }
 
-// Runs a case whose inputs are at a place.
-fn replay(file: &[u8], call: u64, at: usize) -> Replayed {
+// Runs a case whose inputs are at a place, and says whether its outcome is as recorded and ends where
+// the case does.
+fn is_same(file: &[u8], call: u64, at: usize, end: usize) -> bool {
     match call {
-        1 => scalar::convert(file, at),
-        2 => scalar::square_root(file, at),
-        3 => trace::replay(file, at),
-        _ => Replayed {
-            same: false,
-            end: END,
-        },
+        1 => scalar::convert(file, at, end),
+        2 => scalar::square_root(file, at, end),
+        8 => exponential::replay(file, at, end),
+        _ => modelled::replay(file, call, at, end),
     }
 }
 
-// The tally after a case at a place, if it is one of that call. A case has to end where its outcome does.
-fn counted(tally: Tally, file: &[u8], call: u64, at: usize, case: u64) -> Tally {
-    if word(file, after(at, 1)) != call {
-        return tally;
-    }
-    let replayed = replay(file, call, after(at, 2));
+// The tally with one case more.
+fn with_case(tally: Tally, case: u64, same: bool) -> Tally {
     let cases = wrapping_add_u64(tally.cases, 1);
-    if replayed.same {
-        if replayed.end == after_list(file, at) {
-            return Tally {
-                cases: cases,
-                different: tally.different,
-                first: tally.first,
-            };
-        }
+    if same {
+        return Tally {
+            cases: cases,
+            different: tally.different,
+            first: tally.first,
+        };
     }
     Tally {
         cases: cases,
@@ -80,6 +72,15 @@ fn counted(tally: Tally, file: &[u8], call: u64, at: usize, case: u64) -> Tally 
             tally.first
         },
     }
+}
+
+// The tally after the case at a place, which is counted if it is one of that call.
+fn counted(tally: Tally, file: &[u8], call: u64, at: usize, case: u64) -> Tally {
+    if word(file, after(at, 1)) != call {
+        return tally;
+    }
+    let same = is_same(file, call, after(at, 2), after_list(file, at));
+    with_case(tally, case, same)
 }
 
 // Runs the cases of one call.

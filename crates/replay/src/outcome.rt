@@ -1,33 +1,44 @@
-// What the outcome of a case is compared with.
+// Whether the outcome of a call is the recorded one.
+ghost use mathlib.Core.Path.{_≡_};
+ghost use Prim.Native.Nat.{_+_, min};
 use crate::words::after;
 use crate::words::same;
 use crate::words::word;
 
-// Whether a case came out as recorded, and the place after it.
-pub struct Replayed {
-    pub same: bool,
-    pub end: usize,
-}
-
 // The words of a number and its place.
 const HEAD: u64 = 5;
 
+// Whether the words from a place on are these numbers.
+pub fn same_counts(file: &[u8], at: usize, counts: &[u64]) -> bool {
+    let mut i: usize = 0;
+    while i < counts.len() {
+        if word(file, after(at, i as u64)) != counts[i] {
+            return false;
+        }
+        i += 1;
+    }
+    true
+}
+
+// Whether the words from a place on are the bits of these doubles.
+pub fn same_values(file: &[u8], at: usize, values: &[f64]) -> bool {
+    let mut i: usize = 0;
+    while i < values.len() {
+        if !same(values[i], word(file, after(at, i as u64))) {
+            return false;
+        }
+        i += 1;
+    }
+    true
+}
+
+// The number and the place, with which every outcome begins.
 pub fn same_head(file: &[u8], at: usize, number: u32, place: [u64; 4]) -> bool {
-    same_count(file, at, number as u64)
-        & same_count(file, after(at, 1), place[0])
-        & same_count(file, after(at, 2), place[1])
-        & same_count(file, after(at, 3), place[2])
-        & same_count(file, after(at, 4), place[3])
+    (word(file, at) == number as u64) & same_counts(file, after(at, 1), &place)
 }
 
-pub fn after_head(at: usize) -> usize {
+pub fn after_head(at: usize) -> usize
+    ensures { λ r. ⌜ r ≡ min (at + 5) 65537 ⌝ }
+{
     after(at, HEAD)
-}
-
-pub fn same_count(file: &[u8], at: usize, count: u64) -> bool {
-    word(file, at) == count
-}
-
-pub fn same_value(file: &[u8], at: usize, value: f64) -> bool {
-    same(value, word(file, at))
 }

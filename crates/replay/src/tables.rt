@@ -1,11 +1,27 @@
 // Lists of doubles, and the tables that a call is lent.
+ghost use mathlib.Core.Path.{_≡_};
 ghost use Prim.Native.Nat.{_≤_};
+ghost use lib.ListN.{length};
 ghost use Rattle.replay.specs.Part.{Part};
 use crate::words::after;
 use crate::words::double;
 use crate::words::same;
 use crate::words::word;
 use std::num::wrapping_add_u64;
+
+// A table of zeros. Only its length is told: a caller's proof need not go through its entries.
+pub fn zeros() -> [f64; 1024]
+    ensures { λ r. ⌜ 1024 ≡ length r ⌝ }
+{
+    [0.0; 1024]
+}
+
+// A workspace of zeros.
+pub fn workspace() -> [f64; 22446]
+    ensures { λ r. ⌜ 22446 ≡ length r ⌝ }
+{
+    [0.0; 22446]
+}
 
 // A count, or 0 where it exceeds `most`, as only a damaged file has it.
 fn count(file: &[u8], at: usize, most: usize) -> usize

@@ -1,0 +1,29 @@
+// Calls 3 to 7 begin with a model: weights, discounts and parameters.
+use crate::inputs::after_params;
+use crate::inputs::params;
+use crate::tables::list;
+use crate::tables::zeros;
+use crate::trace;
+use crate::vanilla;
+use crate::vix;
+use crate::words::after_list;
+
+pub fn replay(file: &[u8], call: u64, at: usize, end: usize) -> bool {
+    let discounts_at = after_list(file, at);
+    let params_at = after_list(file, discounts_at);
+    let rest_at = after_params(params_at);
+    let mut weights = zeros();
+    let count = list(file, at, &mut weights);
+    let weights = &weights[..count];
+    let mut discounts = zeros();
+    let count = list(file, discounts_at, &mut discounts);
+    let discounts = &discounts[..count];
+    let params = params(file, params_at);
+    match call {
+        3 => trace::replay(file, rest_at, end, weights, discounts, params),
+        4 => vanilla::replay(file, rest_at, end, false, weights, discounts, params),
+        5 => vanilla::replay(file, rest_at, end, true, weights, discounts, params),
+        6 => vix::evaluation(file, rest_at, end, weights, discounts, params),
+        _ => false,
+    }
+}

@@ -1,0 +1,117 @@
+// Calls 4 and 5: a vanilla batch, ordinary and mirrored.
+use crate::inputs::after_segments;
+use crate::inputs::decimal;
+use crate::inputs::flag;
+use crate::inputs::segments;
+use crate::inputs::size;
+use crate::outcome::after_head;
+use crate::outcome::same_counts;
+use crate::outcome::same_head;
+use crate::outcome::same_values;
+use crate::tables::lend;
+use crate::tables::list;
+use crate::tables::same_table;
+use crate::tables::zeros;
+use crate::words::after;
+use crate::words::after_list;
+use decimal::Decimal;
+use model::Params;
+use model::Segments;
+use terminal::VanillaAnswer;
+
+// The call, in either form.
+fn price(
+    mirrored: bool,
+    weights: &[f64],
+    discounts: &[f64],
+    params: Params,
+    segments: Segments,
+    put: bool,
+    strike: Decimal,
+    paths: usize,
+    draws: &[f64],
+    seen: &mut [f64],
+) -> VanillaAnswer {
+    if mirrored {
+        return terminal::qrh_mirrored(
+            weights,
+            discounts,
+            params,
+            segments,
+            put,
+            strike,
+            paths,
+            draws,
+            seen,
+        );
+    }
+    terminal::qrh_vanilla(
+        weights,
+        discounts,
+        params,
+        segments,
+        put,
+        strike,
+        paths,
+        draws,
+        seen,
+    )
+}
+
+// Whether the answer is as at a place of the file: number and place, four values, three counts.
+fn same_answer(file: &[u8], at: usize, answer: VanillaAnswer) -> bool {
+    let values_at = after_head(at);
+    let place = answer.place;
+    let values = [
+        answer.price,
+        answer.price_error,
+        answer.spot_mean,
+        answer.spot_error,
+    ];
+    let counts = [answer.paths, answer.non_positive, answer.steps];
+    same_head(file, at, answer.number, place)
+        & same_values(file, values_at, &values)
+        & same_counts(file, after(values_at, 4), &counts)
+}
+
+pub fn replay(
+    file: &[u8],
+    at: usize,
+    end: usize,
+    mirrored: bool,
+    weights: &[f64],
+    discounts: &[f64],
+    params: Params,
+) -> bool {
+    let put_at = after_segments(file, at);
+    let paths_at = after(put_at, 3);
+    let draws_at = after(paths_at, 1);
+    let length_at = after_list(file, draws_at);
+    let outcome_at = after(length_at, 1);
+    let segments = segments(file, at);
+    let put = flag(file, put_at);
+    let strike = decimal(file, after(put_at, 1));
+    let paths = size(file, paths_at);
+    let mut draws = zeros();
+    let count = list(file, draws_at, &mut draws);
+    let draws = &draws[..count];
+    let mut table = zeros();
+    let count = lend(file, length_at, 1, &mut table);
+    let seen = &mut table[..count];
+    let answer = price(
+        mirrored,
+        weights,
+        discounts,
+        params,
+        segments,
+        put,
+        strike,
+        paths,
+        draws,
+        seen,
+    );
+    let table_at = after(after_head(outcome_at), 7);
+    same_answer(file, outcome_at, answer)
+        & same_table(file, table_at, 1, &table)
+        & (after_list(file, table_at) == end)
+}
