@@ -1,6 +1,6 @@
 -- Bit patterns of NaNs. Assumes nothing.
 use mathlib.Core.Path.{_≡_, refl, sym, _∙_, subst}
-use mathlib.Core.Bool.{Bool, true, false, not, true≢false}
+use mathlib.Core.Bool.{Bool, true, not, true≢false}
 use Prim.Native.Nat.{ℕ, _*_, _%_, _^_, _≤_, _<_}
 use lib.Dec.{T}
 use lib.Arith.{le→nltb}

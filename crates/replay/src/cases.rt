@@ -27,6 +27,14 @@ pub fn count(file: &[u8]) -> u64 {
     word(file, 1)
 }
 
+// The place after the case at a place, or the end where it is one of no call.
+fn after_case(file: &[u8], at: usize) -> usize {
+    match word(file, after(at, 1)) {
+        1..=8 => after_list(file, at),
+        _ => END,
+    }
+}
+
 // Whether the file is made of its mark, the count and that many cases.
 pub fn is_whole(file: &[u8]) -> bool {
     let cases = count(file);
@@ -36,7 +44,7 @@ pub fn is_whole(file: &[u8]) -> bool {
     let mut at = FIRST;
     let mut case: u64 = 0;
     while case < cases {
-        at = after_list(file, at);
+        at = after_case(file, at);
         case += 1;
     }
     (file.len() % 8 == 0) & (file.len() / 8 == at)

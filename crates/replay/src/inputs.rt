@@ -1,5 +1,6 @@
 // The inputs of a call.
-ghost use Prim.Native.Nat.{_<_};
+ghost use mathlib.Core.Path.{_≡_};
+ghost use Prim.Native.Nat.{_+_, _≤_, _<_, min};
 use crate::words::after;
 use crate::words::word;
 use decimal::Decimal;
@@ -52,7 +53,9 @@ pub fn params(file: &[u8], at: usize) -> Params {
     }
 }
 
-pub fn after_params(at: usize) -> usize {
+pub fn after_params(at: usize) -> usize
+    ensures { λ r. ⌜ r ≡ min (at + 33) 65537 ⌝ }
+{
     after(at, PARAMS)
 }
 
@@ -62,7 +65,12 @@ fn segment(file: &[u8], at: usize, i: usize) -> Segment
 {
     if i as u64 >= word(file, after(at, 1)) {
         return Segment {
-            dt: decimal(file, usize::MAX),
+            dt: Decimal {
+                low: 0,
+                high: 0,
+                scale: 0,
+                negative: false,
+            },
             steps: 0,
         };
     }
@@ -86,7 +94,9 @@ pub fn segments(file: &[u8], at: usize) -> Segments {
     }
 }
 
-pub fn after_segments(file: &[u8], at: usize) -> usize {
+pub fn after_segments(file: &[u8], at: usize) -> usize
+    ensures { λ r. ⌜ r ≤ 65537 ⌝ }
+{
     let written_at = after(at, 2);
     let written = word(file, after(at, 1));
     after(after(after(written_at, written), written), written)

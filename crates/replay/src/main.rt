@@ -1,6 +1,6 @@
 // Runs recorded cases, read from standard input, and compares every outcome with the recorded one:
 // doubles by their bits, numbers, places, counts and every entry of the lent tables. The records are
-// those of the Rust (oracle/README.md has the format and how they were made).
+// those of the Rust; oracle/README.md has the format, and `record write FILE --most 3` made them.
 ghost use mathlib.Core.Path.{_≡_};
 ghost use lib.ListN.{length};
 use libc::STDIN_FILENO;
@@ -37,37 +37,33 @@ fn report(file: &[u8], call: u64, name: &[u8]) {
     io::write_all(STDOUT_FILENO, b"\n");
 }
 
-// Counts the cases of a call that is not there yet.
-fn count(file: &[u8], call: u64, name: &[u8]) {
-    let tally = cases::tally_of(file, call);
-    io::write_all(STDOUT_FILENO, name);
-    say(b": ", tally.cases);
-    io::write_all(STDOUT_FILENO, b" cases, not run\n");
-}
-
-fn report_scalars_and_matrices(file: &[u8]) {
+fn report_values_and_paths(file: &[u8]) {
     report(file, 1, b"convert");
     report(file, 2, b"square root");
-    report(file, 8, b"exponential");
+    report(file, 3, b"trace");
 }
 
-fn report_models(file: &[u8]) {
-    report(file, 3, b"trace");
+fn report_vanillas(file: &[u8]) {
     report(file, 4, b"vanilla batch");
     report(file, 5, b"mirrored batch");
+}
+
+fn report_vix_and_matrices(file: &[u8]) {
     report(file, 6, b"VIX evaluation");
-    count(file, 7, b"VIX batch");
+    report(file, 7, b"VIX batch");
+    report(file, 8, b"exponential");
 }
 
 fn report_all(file: &[u8]) {
     if !cases::is_whole(file) {
-        io::write_all(STDOUT_FILENO, b"this is not a file of recorded cases\n");
+        io::write_all(STDOUT_FILENO, b"this is no whole file of recorded cases\n");
         return;
     }
     say(b"recorded cases: ", cases::count(file));
     io::write_all(STDOUT_FILENO, b"\n");
-    report_scalars_and_matrices(file);
-    report_models(file);
+    report_values_and_paths(file);
+    report_vanillas(file);
+    report_vix_and_matrices(file);
 }
 
 // Room for a file. Only its length is told: main's proof need not go through its bytes.

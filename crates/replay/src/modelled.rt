@@ -24,6 +24,6 @@ pub fn replay(file: &[u8], call: u64, at: usize, end: usize) -> bool {
         4 => vanilla::replay(file, rest_at, end, false, weights, discounts, params),
         5 => vanilla::replay(file, rest_at, end, true, weights, discounts, params),
         6 => vix::evaluation(file, rest_at, end, weights, discounts, params),
-        _ => false,
+        _ => vix::batch(file, rest_at, end, weights, discounts, params),
     }
 }

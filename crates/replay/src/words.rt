@@ -3,7 +3,7 @@
 ghost use mathlib.Core.Path.{_≡_};
 ghost use mathlib.Core.Bool.{true};
 ghost use lib.Ieee.{binary64, ofBits};
-ghost use Prim.Native.Nat.{_+_, _^_, _≤_, _<_, min};
+ghost use Prim.Native.Nat.{_+_, _*_, _^_, _≤_, _<_, min};
 
 // The farthest place that is told from others. It lies past the longest file.
 pub const END: usize = 65_537;
@@ -25,7 +25,7 @@ fn byte(file: &[u8], at: usize) -> u64
 
 // The number of four bytes.
 fn half(file: &[u8], from: usize) -> u64
-    requires { ⌜ from ≤ 600000 ⌝ }
+    requires { ⌜ from ≤ 8 * 65537 + 4 ⌝ }
     ensures { λ r. ⌜ r < 2 ^ 32 ⌝ }
 {
     byte(file, from)
@@ -46,7 +46,7 @@ pub fn after(at: usize, count: u64) -> usize
     ensures { λ r. ⌜ r ≡ min (at + count) 65537 ⌝ }
 {
     if at < END {
-        if count < 65_537 {
+        if count < END as u64 {
             let sum = at + count as usize;
             if sum < END {
                 return sum;
