@@ -2,8 +2,8 @@
 use libc::STDOUT_FILENO;
 
 mod batch;
+mod exponential;
 mod given;
-mod matrix;
 mod report;
 mod scalar;
 mod trace;
@@ -13,7 +13,7 @@ fn main() {
     let mut wrong = scalar::figures(0);
     wrong = trace::figures(wrong);
     wrong = batch::figures(wrong);
-    wrong = matrix::figures(wrong);
+    wrong = exponential::figures(wrong);
     wrong = vix::figures(wrong);
     io::print_decimal(STDOUT_FILENO, wrong);
     io::write_all(STDOUT_FILENO, b" wrong\n");

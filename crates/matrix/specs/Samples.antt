@@ -8,25 +8,21 @@ use lib.Ieee.{Float, fin}
 use Rattle.numeric.specs.Double.{one, plusZero}
 use Rattle.matrix.specs.Matrix.{entry}
 use Rattle.matrix.specs.Exponential.{squarings, exponential, exponentialFinite}
-use Rattle.matrix.specs.Call.{refused, answer, written}
+use Rattle.refusal.specs.declared.Refusal.the-variants.{Plain}
+use Rattle.matrix.specs.declared.Answer.the-variants.{Done, Refused}
+use Rattle.refusal.specs.Questions.{firstNo}
+use Rattle.matrix.specs.Call.{exponentialCall, exponentialTable}
 
 -- P11 [0 1; 0 0]: one squaring, [1 1; 0 1]
 unfoldable pub nilpotent : List Float
 nilpotent = plusZero ∷ one ∷ plusZero ∷ plusZero ∷ []
 
-four : List Float
-four = plusZero ∷ plusZero ∷ plusZero ∷ plusZero ∷ []
-
-twenty : List Float
-unfolding four
-twenty = replicate 20 plusZero
-
-p11 : answer 2 nilpotent four twenty ≡ record { number = 0; squarings = 1 }
-unfolding nilpotent four twenty answer
+p11 : exponentialCall 2 nilpotent 4 20 ≡ Done 1
+unfolding nilpotent exponentialCall firstNo
 p11 = refl
 
-p11-matrix : written 2 nilpotent four twenty ≡ one ∷ one ∷ plusZero ∷ one ∷ []
-unfolding nilpotent four twenty written
+p11-matrix : exponentialTable 2 nilpotent (replicate 4 plusZero) 20 ≡ one ∷ one ∷ plusZero ∷ one ∷ []
+unfolding nilpotent exponentialTable firstNo
 p11-matrix = refl
 
 -- norm 0.5: no squaring
@@ -38,8 +34,8 @@ norm-half = refl
 largest : List Float
 largest = fin false 1 (pos 1023) ∷ []
 
-norm-large : answer 1 largest (plusZero ∷ []) (plusZero ∷ plusZero ∷ plusZero ∷ plusZero ∷ plusZero ∷ []) ≡ refused 17
-unfolding largest answer
+norm-large : exponentialCall 1 largest 1 5 ≡ Refused (Plain 17)
+unfolding largest exponentialCall firstNo
 norm-large = refl
 
 -- a matrix of dimension 4, as the moments of one factor give it

@@ -5,13 +5,16 @@ ghost use Prim.Native.Nat.{_*_, _≤_};
 ghost use lib.ListN.{length};
 ghost use Rattle.matrix.specs.Exponential.{exponential};
 ghost use Rattle.matrix.specs.Workspace.{matrixAt, exponentiated, Holds};
-ghost use Rattle.matrix.specs.Call.{shapeRight, reported, answer, written};
+ghost use Rattle.refusal.specs.Questions.{firstNo, KeptUnlessPassed};
+ghost use Rattle.matrix.specs.Call.{shapeRight, sizeQuestions, exponentialCall, exponentialTable};
 
 mod entries;
 mod norm;
 mod product;
 mod scaling;
 mod taylor;
+
+use refusal::Refusal;
 
 // What the exponential of the matrix in a workspace gives: the number of squarings, or that the norm,
 // twice the norm or an entry of the exponential is not finite.
@@ -20,12 +23,10 @@ pub enum Exponentiated {
     NotFinite,
 }
 
-// What the matrix call answers: the number of squarings, or one of the questions 26, 16 and 17.
+// What the matrix call answers: the number of squarings, or the first question that got a No.
 pub enum Answer {
     Done(u32),
-    Shape,
-    Workspace,
-    NotFinite,
+    Refused(Refusal),
 }
 
 // The exponential of the matrix that work begins with, in its place. The rest of work is free, and what
@@ -72,19 +73,22 @@ fn shape_is_right(dim: usize, input: usize, output: usize) -> bool
 
 // The matrix call: the exponential of input, written to output once every question is passed.
 pub fn exponentiate(dim: usize, input: &[f64], output: &mut [f64], work: &mut [f64]) -> Answer
-    ensures answer { λ r. ⌜ reported r ≡ answer dim (now (input .entry)) (now (output .entry)) (now (work .entry)) ⌝ }
-    ensures output { λ _. ⌜ now (output .exit) ≡ written dim (now (input .entry)) (now (output .entry)) (now (work .entry)) ⌝ }
+    ensures answer { λ r. ⌜ r ≡ exponentialCall dim (now (input .entry)) (length (now (output .entry))) (length (now (work .entry))) ⌝ }
+    ensures output { λ _. ⌜ now (output .exit) ≡ exponentialTable dim (now (input .entry)) (now (output .entry)) (length (now (work .entry))) ⌝ }
+    ensures workspace { λ _. ⌜ KeptUnlessPassed
+        (firstNo (sizeQuestions dim (length (now (input .entry))) (length (now (output .entry))) (length (now (work .entry)))))
+        (now (work .entry)) (now (work .exit)) ⌝ }
 {
     if !shape_is_right(dim, input.len(), output.len()) {
-        return Answer::Shape;
+        return Answer::Refused(Refusal::Plain(26));
     }
     let size = dim * dim;
     if work.len() != 5 * size {
-        return Answer::Workspace;
+        return Answer::Refused(Refusal::Plain(16));
     }
     entries::copy(input, &mut work[..size]);
     match exponential(dim, work) {
-        Exponentiated::NotFinite => Answer::NotFinite,
+        Exponentiated::NotFinite => Answer::Refused(Refusal::Plain(17)),
         Exponentiated::Done(squarings) => {
             entries::copy(&work[..size], output);
             Answer::Done(squarings)

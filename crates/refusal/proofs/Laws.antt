@@ -12,7 +12,7 @@ use borrow.Author.Tests.{not-true, not-false}
 use Rattle.refusal.specs.declared.Refusal.{Refusal}
 use Rattle.refusal.specs.declared.Outcome.{Outcome}
 use Rattle.refusal.specs.declared.Outcome.the-variants.{Passed, Refused}
-use Rattle.refusal.specs.Questions.{Question, unless, firstNo, orLater, further, each}
+use Rattle.refusal.specs.Questions.{Question, unless, firstNo, orLater, further, each, KeptUnlessPassed}
 
 -- ---- the code's `if !t { return .. }`, where t is what a call answers to a question
 pub no : {t passes : Bool} → t ≡ passes → not t ≡ true → passes ≡ false
@@ -127,3 +127,37 @@ module _ (about : ℕ → List Question) where
       (λ (e : i ≡ n). subst (λ (k : ℕ). firstNo (about (suc k)) ≡ Passed) (sym e) (passed-then (each about n) (about (suc n)) all))
       (λ (h : i < n). each-passed i n h (passed-first (each about n) (about (suc n)) all))
       (eq-or-lt-of-le (le-of-suc-le-suc l))
+
+-- ---- a lent workspace: it may always be kept, and where all up to 16 is passed it is free
+module _ {A : Type 0} where
+  pub kept-same : (o : Outcome) (lent : A) → KeptUnlessPassed o lent lent
+  kept-same Passed lent = tt
+  kept-same (Refused r) lent = refl
+
+  pub kept-free : (o : Outcome) (lent after : A) → o ≡ Passed → KeptUnlessPassed o lent after
+  kept-free Passed lent after e = tt
+  kept-free (Refused r) lent after e = absurd (never-both (Refused r) r refl e)
+
+-- ---- what holds of the refusal of each question holds of the first No
+module _ (P : Refusal → Type 0) where
+  abbrev pub Each : List Question → Type 0
+  Each [] = Unit
+  Each (q ∷ qs) = P (q .refusal) × Each qs
+
+  pub each-joined : (xs ys : List Question) → Each xs → Each ys → Each (xs ++ ys)
+  each-joined [] ys h k = k
+  each-joined (q ∷ xs) ys h k = (h .0, each-joined xs ys (h .1) k)
+
+  pub each-all : (about : ℕ → List Question) → ((i : ℕ) → Each (about i)) → (n : ℕ) → Each (each about n)
+  unfolding each
+  each-all about h zero = tt
+  each-all about h (suc n) = each-joined (each about n) (about (suc n)) (each-all about h n) (h (suc n))
+
+  pub first-has : (qs : List Question) → Each qs → (r : Refusal) → firstNo qs ≡ Refused r → P r
+  unfolding firstNo
+  first-has [] h r e = absurd (never-both Passed r e refl)
+  first-has (q ∷ qs) h r e = go (q .passes) e (first-has qs (h .1) r)
+    where
+      go : (b : Bool) → unless b (q .refusal) (firstNo qs) ≡ Refused r → (firstNo qs ≡ Refused r → P r) → P r
+      go true f later = later f
+      go false f later = let same : q .refusal ≡ r = cc in subst P same (h .0)

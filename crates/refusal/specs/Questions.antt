@@ -1,4 +1,5 @@
 -- Questions at the door: a call asks them in order, and a No ends it with that question's refusal. Definitions only.
+use mathlib.Core.Path.{_≡_}
 use mathlib.Core.Bool.{Bool, true, false}
 use mathlib.Core.List.{List, [], _∷_, _++_}
 use Prim.Native.Nat.{ℕ, zero, suc}
@@ -43,3 +44,19 @@ further (Refused refusal) q = Refused refusal
 unfoldable pub each : (ℕ → List Question) → ℕ → List Question
 each about zero = []
 each about (suc n) = each about n ++ about (suc n)
+
+-- ---- what a call makes of the outcome of its questions
+
+-- its answer: the refusal of the first No, or what it answers where there is none
+abbrev pub onceAsked : {A : Type 0} → Outcome → (Refusal → A) → A → A
+onceAsked Passed refused answered = answered
+onceAsked (Refused refusal) refused answered = refused refusal
+
+-- a lent table, "No output is written before 22": as lent at a No, and written where there is none
+abbrev pub writtenOnceAsked : {A : Type 0} → Outcome → A → A → A
+writtenOnceAsked outcome lent written = onceAsked outcome (λ refusal. lent) written
+
+-- a lent workspace, "Workspace contents are free once 16 passes", by the outcome up to 16
+abbrev pub KeptUnlessPassed : {A : Type 0} → Outcome → A → A → Type 0
+KeptUnlessPassed Passed lent after = Unit
+KeptUnlessPassed (Refused refusal) lent after = after ≡ lent

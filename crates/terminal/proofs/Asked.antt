@@ -21,7 +21,8 @@ use Rattle.batch.specs.declared.Observed.{Observed}
 use Rattle.batch.specs.Batch.{Batch, drawOf, observationOf, batchOf}
 use Rattle.terminal.specs.declared.Priced.{Priced}
 use Rattle.terminal.specs.declared.Priced.the-variants as priced
-use Rattle.terminal.specs.Batches.{batchQuestions, batchFor, onceAsked, tableOnceAsked}
+use Rattle.refusal.specs.Questions.{onceAsked, writtenOnceAsked}
+use Rattle.terminal.specs.Batches.{batchQuestions, batchFor, refusedAfter}
 
 -- ---- the batch of a prepared model
 
@@ -53,13 +54,13 @@ same-sizes m door ready mirrored paths draws lent =
     ap (λ (s : Schedule). batchQuestions s mirrored paths draws lent) (ready .schedule .in-use)
 
 -- ---- a call by the outcome of its questions: its answer, its table, and demand 3 where all are passed
-abbrev pub CallEnsures : Outcome → Priced → List Float → List Float → (List Float → Type 0) → Priced → List Float → Type 0
+abbrev pub CallEnsures : Outcome → Priced → List Float → List Float → (List Float → Priced → Type 0) → Priced → List Float → Type 0
 CallEnsures q answered written lent Claim r after =
-    (r ≡ onceAsked q 0 answered) × ((after ≡ tableOnceAsked q written lent) × (q ≡ Passed → Claim after))
+    (r ≡ onceAsked q (refusedAfter 0) answered) × ((after ≡ writtenOnceAsked q lent written) × (q ≡ Passed → Claim after r))
 
-module _ (answered : Priced) (written lent : List Float) (Claim : List Float → Type 0) {q : Outcome} where
+module _ (answered : Priced) (written lent : List Float) (Claim : List Float → Priced → Type 0) {q : Outcome} where
   pub call-refused : (first : Refusal) → q ≡ Refused first → CallEnsures q answered written lent Claim (priced.Refused first 0) lent
   call-refused first e = (rw e, (rw e, λ passed. absurd (never-both _ first e passed)))
 
-  pub call-passed : q ≡ Passed → {r : Priced} {after : List Float} → r ≡ answered → after ≡ written → Claim after → CallEnsures q answered written lent Claim r after
+  pub call-passed : q ≡ Passed → {r : Priced} {after : List Float} → r ≡ answered → after ≡ written → Claim after r → CallEnsures q answered written lent Claim r after
   call-passed e made table claim = (rw e made, (rw e table, λ p. claim))

@@ -2,6 +2,7 @@ pub mod TraceCall
 pub mod Sizes
 pub mod Reported
 pub mod Observed
+pub mod Claims
 pub mod LastColumn
 pub mod Asked
 pub mod VanillaAsked

@@ -18,7 +18,7 @@ use Rattle.batch.specs.declared.Payoff.the-variants.{Vanilla}
 use Rattle.batch.specs.Batch.{Batch, Prepared, batchOf, tableAfter}
 use Rattle.terminal.specs.declared.Priced.{Priced}
 use Rattle.terminal.specs.declared.Priced.the-variants as priced
-use Rattle.terminal.specs.Batches.{strikeQuestions, batchQuestions, styleOf, pricedRun, Claimed}
+use Rattle.terminal.specs.Batches.{strikeQuestions, batchQuestions, styleOf, pricedRun, numberIn, placeIn, stepsIn, Claimed}
 use Rattle.terminal.specs.Vanilla.{VanillaInputs, vanillaQuestions, vanillaBatch, vanillaCall, vanillaTable, VanillaClaim}
 use Rattle.terminal.proofs.Sizes.{prepared}
 use Rattle.terminal.proofs.Asked.{same-batch, same-sizes, call-refused, call-passed}
@@ -33,20 +33,23 @@ sizes i lent door = firstNo (batchQuestions (door .schedule) (i .mirrored) (i .p
 
 module _ (i : VanillaInputs) (lent : List Float) where
   abbrev pub Ensured : Priced → List Float → Type 0
-  Ensured r after = (r ≡ vanillaCall i lent) × ((after ≡ vanillaTable i lent) × VanillaClaim i lent after)
+  Ensured r after = (r ≡ vanillaCall i lent) × ((after ≡ vanillaTable i lent) × VanillaClaim i lent after (numberIn r) (placeIn r) (stepsIn r))
 
   -- where the questions are passed
   abbrev answer : Priced
   answer = pricedRun Spot (vanillaBatch i) (Vanilla (styleOf (i .put)) (value (i .strike)))
 
+  abbrev claimed : List Float → Priced → Type 0
+  claimed after r = Claimed (vanillaBatch i) lent after (numberIn r) (placeIn r) (stepsIn r)
+
   refused : (r : Refusal) → firstNo (vanillaQuestions i lent) ≡ Refused r → Ensured (priced.Refused r 0) lent
   unfolding vanillaCall vanillaTable VanillaClaim
-  refused r e = call-refused answer (tableAfter (vanillaBatch i) lent) lent (Claimed (vanillaBatch i) lent) r e
+  refused r e = call-refused answer (tableAfter (vanillaBatch i) lent) lent claimed r e
 
-  passed : firstNo (vanillaQuestions i lent) ≡ Passed → {r : Priced} {after : List Float} → r ≡ answer → after ≡ tableAfter (vanillaBatch i) lent → Claimed (vanillaBatch i) lent after → Ensured r after
+  passed : firstNo (vanillaQuestions i lent) ≡ Passed → {r : Priced} {after : List Float} → r ≡ answer → after ≡ tableAfter (vanillaBatch i) lent → claimed after r → Ensured r after
   unfolding vanillaCall vanillaTable VanillaClaim
   passed e answered table claim =
-      call-passed answer (tableAfter (vanillaBatch i) lent) lent (Claimed (vanillaBatch i) lent) e answered table claim
+      call-passed answer (tableAfter (vanillaBatch i) lent) lent claimed e answered table claim
 
   module _ (door : ModelDoor) (m : ModelPrepared (i .model) door) where
     first-is : first i door ≡ firstNo (modelQuestions (i .model) ++ strikeQuestions (i .strike))
@@ -82,7 +85,7 @@ module _ (i : VanillaInputs) (lent : List Float) where
         run-is : run ≡ vanillaBatch i
         run-is = same-batch (i .model) door ready (i .mirrored) (i .paths) (i .draws) Spot form
 
-        pub priced-through : {payoff : Payoff} → payoff ≡ Vanilla (styleOf (i .put)) (value (i .strike)) → {r : Priced} {after : List Float} → (r ≡ pricedRun Spot run payoff) × ((after ≡ tableAfter run lent) × Claimed run lent after) → Ensured r after
+        pub priced-through : {payoff : Payoff} → payoff ≡ Vanilla (styleOf (i .put)) (value (i .strike)) → {r : Priced} {after : List Float} → (r ≡ pricedRun Spot run payoff) × ((after ≡ tableAfter run lent) × Claimed run lent after (numberIn r) (placeIn r) (stepsIn r)) → Ensured r after
         priced-through pays {r} {after} made =
             passed (sizes-is ∙ h) (made .0 ∙ rw (pays, run-is)) (made .1 .0 ∙ ap (λ (b : Batch). tableAfter b lent) run-is)
-            (subst (λ (b : Batch). Claimed b lent after) run-is (made .1 .1))
+            (subst (λ (b : Batch). Claimed b lent after (numberIn r) (placeIn r) (stepsIn r)) run-is (made .1 .1))

@@ -9,7 +9,7 @@ use Rattle.decimal.specs.Decimal.{value}
 use Rattle.refusal.specs.declared.Outcome.{Outcome}
 use Rattle.refusal.specs.declared.Outcome.the-variants.{Passed, Refused}
 use Rattle.refusal.specs.declared.Refusal.{Refusal}
-use Rattle.refusal.specs.Questions.{Question, firstNo, orLater}
+use Rattle.refusal.specs.Questions.{Question, firstNo, orLater, KeptUnlessPassed}
 use Rattle.refusal.proofs.Laws.{append, never-both, then, stops}
 use Rattle.model.specs.declared.Kernel.{Kernel}
 use Rattle.model.specs.declared.ModelDoor.{ModelDoor}
@@ -27,8 +27,8 @@ use Rattle.batch.specs.Batch.{Batch, Prepared, observationOf, batchOf, tableAft
 use Rattle.terminal.specs.declared.FormDoor.{FormDoor}
 use Rattle.terminal.specs.declared.Priced.{Priced}
 use Rattle.terminal.specs.declared.Priced.the-variants as priced
-use Rattle.terminal.specs.Batches.{batchQuestions, batchFor, pricedRun, Claimed}
-use Rattle.terminal.specs.VixCall.{windowQuestions, formQuestions, FormPrepared, KeptUnlessPassed}
+use Rattle.terminal.specs.Batches.{batchQuestions, batchFor, pricedRun, numberIn, placeIn, stepsIn, Claimed}
+use Rattle.terminal.specs.VixCall.{windowQuestions, formQuestions, FormPrepared}
 use Rattle.terminal.specs.VixBatch.{VixBatchInputs, payoffFor, payoffQuestions, vixBatchQuestions, vixBatch, vixBatchCall, vixBatchTable, VixBatchClaim, throughSixteen}
 use Rattle.terminal.proofs.Asked.{same-batch, same-sizes, call-refused, call-passed}
 use Rattle.terminal.proofs.Sizes.{prepared}
@@ -56,20 +56,23 @@ same-of f a b = rw (a, b)
 
 module _ (i : VixBatchInputs) (size : ℕ) (lent : List Float) where
   abbrev pub Ensured : Priced → List Float → Type 0
-  Ensured r after = (r ≡ vixBatchCall i size lent) × ((after ≡ vixBatchTable i size lent) × VixBatchClaim i size lent after)
+  Ensured r after = (r ≡ vixBatchCall i size lent) × ((after ≡ vixBatchTable i size lent) × VixBatchClaim i size lent after (numberIn r) (placeIn r) (stepsIn r))
 
   -- where the questions are passed
   abbrev answer : Priced
   answer = pricedRun VixSquared (vixBatch i) (payoffFor (i .payoff))
 
+  abbrev claimed : List Float → Priced → Type 0
+  claimed after r = Claimed (vixBatch i) lent after (numberIn r) (placeIn r) (stepsIn r)
+
   refused : (r : Refusal) → firstNo (vixBatchQuestions i size lent) ≡ Refused r → Ensured (priced.Refused r 0) lent
   unfolding vixBatchCall vixBatchTable VixBatchClaim
-  refused r e = call-refused answer (tableAfter (vixBatch i) lent) lent (Claimed (vixBatch i) lent) r e
+  refused r e = call-refused answer (tableAfter (vixBatch i) lent) lent claimed r e
 
-  passed : firstNo (vixBatchQuestions i size lent) ≡ Passed → {r : Priced} {after : List Float} → r ≡ answer → after ≡ tableAfter (vixBatch i) lent → Claimed (vixBatch i) lent after → Ensured r after
+  passed : firstNo (vixBatchQuestions i size lent) ≡ Passed → {r : Priced} {after : List Float} → r ≡ answer → after ≡ tableAfter (vixBatch i) lent → claimed after r → Ensured r after
   unfolding vixBatchCall vixBatchTable VixBatchClaim
   passed e answered table claim =
-      call-passed answer (tableAfter (vixBatch i) lent) lent (Claimed (vixBatch i) lent) e answered table claim
+      call-passed answer (tableAfter (vixBatch i) lent) lent claimed e answered table claim
 
   module _ (door : ModelDoor) (m : ModelPrepared (i .model) door) where
     pub model-refused : (r : Refusal) → door .outcome ≡ Refused r → Ensured (priced.Refused r 0) lent
@@ -137,7 +140,7 @@ module _ (i : VixBatchInputs) (size : ℕ) (lent : List Float) where
                 same-batch (i .model) door ready false (i .paths) (i .draws) VixSquared (form .vix)
                 ∙ ap (λ (v : Vix). batchFor (i .model) false (i .paths) (i .draws) (observationOf VixSquared v)) (form-is ∙ same-of (λ k p. vixOf k p (value (i .window))) (ready .kernel .in-use) (ready .raw))
 
-            pub priced-through : {payoff : Payoff} → payoff ≡ payoffFor (i .payoff) → {r : Priced} {after : List Float} → (r ≡ pricedRun VixSquared run payoff) × ((after ≡ tableAfter run lent) × Claimed run lent after) → Ensured r after
+            pub priced-through : {payoff : Payoff} → payoff ≡ payoffFor (i .payoff) → {r : Priced} {after : List Float} → (r ≡ pricedRun VixSquared run payoff) × ((after ≡ tableAfter run lent) × Claimed run lent after (numberIn r) (placeIn r) (stepsIn r)) → Ensured r after
             priced-through pays {r} {after} made =
                 passed (sizes-is ∙ l) (made .0 ∙ rw (pays, run-is)) (made .1 .0 ∙ ap (λ (b : Batch). tableAfter b lent) run-is)
-                (subst (λ (b : Batch). Claimed b lent after) run-is (made .1 .1))
+                (subst (λ (b : Batch). Claimed b lent after (numberIn r) (placeIn r) (stepsIn r)) run-is (made .1 .1))

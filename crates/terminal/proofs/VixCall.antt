@@ -16,7 +16,7 @@ use Rattle.refusal.specs.declared.Refusal.the-variants.{Plain}
 use Rattle.refusal.specs.Refusal.{numberOf, placeOf}
 use Rattle.refusal.specs.declared.Outcome.{Outcome}
 use Rattle.refusal.specs.declared.Outcome.the-variants.{Passed, Refused}
-use Rattle.refusal.specs.Questions.{Question, asked, firstNo, orLater, further}
+use Rattle.refusal.specs.Questions.{Question, asked, firstNo, orLater, further, KeptUnlessPassed}
 use Rattle.refusal.proofs.Laws.{append, then, stops, in-turn, never-both, passed-head, passed-tail}
 use Rattle.model.specs.declared.Kernel.{Kernel}
 use Rattle.model.specs.declared.RawParams.{RawParams}
@@ -40,7 +40,7 @@ use Rattle.terminal.specs.declared.Evaluation.{Evaluation}
 use Rattle.terminal.specs.declared.Evaluation.the-variants as evaluation
 use Rattle.terminal.specs.declared.VixAnswer.{VixAnswer}
 use Rattle.terminal.specs.Answers.{evaluatedAnswer}
-use Rattle.terminal.specs.VixCall.{VixInputs, windowQuestions, formQuestions, givenQuestions, initialQuestions, vixQuestions, afterForm, evaluationAt, vixCall, KeptUnlessPassed, throughWorkspace, FormPrepared}
+use Rattle.terminal.specs.VixCall.{VixInputs, windowQuestions, formQuestions, givenQuestions, initialQuestions, vixQuestions, afterForm, evaluationAt, vixCall, throughWorkspace, FormPrepared}
 
 -- ---- the workspace's size
 pub square-small : {d : ℕ} → d ≤ 67 → d * d ≤ 4489
@@ -50,15 +50,6 @@ pub workspace-right : (n : ℕ) (window : Decimal) (workspace : ℕ) → firstNo
 unfolding windowQuestions
 workspace-right n window workspace e =
     eqb-true workspace (5 * (dimension n * dimension n)) (passed-head _ _ (passed-tail _ _ (passed-tail _ _ e)))
-
--- ---- the workspace, as lent or free
-pub kept-same : (o : Outcome) (lent : List Float) → KeptUnlessPassed o lent lent
-kept-same Passed lent = tt
-kept-same (Refused r) lent = refl
-
-pub kept-free : (o : Outcome) (lent after : List Float) → o ≡ Passed → KeptUnlessPassed o lent after
-kept-free Passed lent after e = tt
-kept-free (Refused r) lent after e = absurd (never-both (Refused r) r refl e)
 
 -- ---- the door of the form
 built-no : (b : Bool) → builtIf b ≡ NotFinite → b ≡ false

@@ -8,7 +8,8 @@ use Rattle.decimal.specs.Decimal.{plusZero}
 use Rattle.refusal.specs.declared.Refusal.{Refusal}
 use Rattle.refusal.specs.declared.Refusal.the-variants.{Plain, InTable, AtSegment, NonFinite, OnPath, Estimate}
 use Rattle.refusal.specs.Refusal.{numberOf, placeOf}
-use Rattle.matrix.specs.Call.{Reported}
+use Rattle.matrix.specs.declared.Answer.{Answer}
+use Rattle.matrix.specs.declared.Answer.the-variants as exponentiation
 use Rattle.terminal.specs.declared.Conversion.{Conversion}
 use Rattle.terminal.specs.declared.Trace.{Trace}
 use Rattle.terminal.specs.declared.Trace.the-variants as trace
@@ -72,9 +73,11 @@ vanillaAnswer (priced.Refused refusal steps) =
       steps = steps;
     }
 
--- exponentiating a matrix: the number of squarings; 26, 16 and 17 have no place
-abbrev pub exponentiated : Reported → ExponentialAnswer
-exponentiated r = record { number = r .number; place = noPlace; squarings = r .squarings }
+-- exponentiating a matrix: the number of squarings; at a refusal its number and place
+abbrev pub exponentialAnswer : Answer → ExponentialAnswer
+exponentialAnswer (exponentiation.Done squarings) = record { number = 0; place = noPlace; squarings = squarings }
+exponentialAnswer (exponentiation.Refused refusal) =
+    record { number = numberOf refusal; place = placeOf refusal; squarings = 0 }
 
 -- evaluating the VIX: VIX squared and the index; at a refusal its number and place
 abbrev pub evaluatedAnswer : Evaluation → VixAnswer

@@ -1,16 +1,19 @@
 -- What the batches share: questions 18 to 21, the batch that is run, what is made of its last column, and what is left in the table. Definitions only.
+use mathlib.Core.Path.{_≡_}
 use mathlib.Core.Bool.{Bool, true, false, not, _&&_, _||_}
+use mathlib.Core.Logic.{_↔_}
 use mathlib.Core.List.{List, [], _∷_}
-use Prim.Native.Nat.{ℕ, zero, suc, _*_, _%_}
+use Prim.Native.Nat.{ℕ, zero, suc, pred, _+_, _*_, _%_}
 use lib.Dec.{eqb, leb}
 use lib.ListN.{length}
 use lib.Ieee.{Float}
 use Rattle.decimal.specs.declared.Decimal.{Decimal}
 use Rattle.decimal.specs.Decimal.{isNegative}
-use Rattle.refusal.specs.declared.Outcome.{Outcome}
-use Rattle.refusal.specs.declared.Outcome.the-variants.{Passed, Refused}
+use Rattle.refusal.specs.declared.Quantity.{Quantity}
+use Rattle.refusal.specs.declared.Refusal.{Refusal}
 use Rattle.refusal.specs.declared.Refusal.the-variants as refusal
-use Rattle.refusal.specs.Questions.{Question, asked, firstNo, each}
+use Rattle.refusal.specs.Refusal.{quantityNumber, numberOf, placeOf}
+use Rattle.refusal.specs.Questions.{Question, asked, firstNo, each, onceAsked}
 use Rattle.model.specs.declared.Schedule.{Schedule}
 use Rattle.model.specs.declared.State.{State}
 use Rattle.model.specs.Kernel.{kernelOf}
@@ -26,10 +29,11 @@ use Rattle.batch.specs.declared.Estimates.{Estimates}
 use Rattle.batch.specs.declared.Run.{Run}
 use Rattle.batch.specs.declared.Run.the-variants as run
 use Rattle.batch.specs.Batch.{Batch, drawOf, drawsNeeded, observation, runAnswer}
-use Rattle.batch.specs.Claim.{Demand3}
+use Rattle.batch.specs.Claim.{Demand3, SomeStepFails, FirstFailure}
 use Rattle.batch.specs.Moments.{underlyingOf, squaredQuestions, estimatesOf, notFinite}
 use Rattle.terminal.specs.declared.Priced.{Priced}
 use Rattle.terminal.specs.declared.Priced.the-variants as priced
+use Rattle.terminal.specs.Answers.{noPlace}
 
 -- "18 Is the strike ≥ 0?", then 1 of it
 abbrev pub strikeQuestions : Decimal → List Question
@@ -71,6 +75,10 @@ batchFor m mirrored paths draws observe =
 
 -- ---- what is made of the last observation of each path, `last p` being that of path p
 
+-- a No, with the steps taken by then
+abbrev pub refusedAfter : ℕ → Refusal → Priced
+refusedAfter steps first = priced.Refused first steps
+
 -- none is asked of a spot; of a VIX squared 23 and 24, path by path
 abbrev pub lastQuestions : Observed → (ℕ → Float) → ℕ → List Question
 lastQuestions Spot last paths = []
@@ -80,11 +88,6 @@ lastQuestions VixSquared last paths = each (squaredQuestions last) paths
 abbrev pub isRooted : Observed → Bool
 isRooted Spot = false
 isRooted VixSquared = true
-
--- "a No ends it with the number": where the questions are passed the answer, else the first No with the steps taken by then
-abbrev pub onceAsked : Outcome → ℕ → Priced → Priced
-onceAsked Passed steps answered = answered
-onceAsked (Refused first) steps answered = priced.Refused first steps
 
 -- "25 Are the four estimates finite, in reported order? (which, 1 to 4)"
 abbrev pub unlessNotFinite : ℕ → ℕ → Priced → Priced
@@ -100,7 +103,7 @@ estimated estimates paths nonPositive steps =
 unfoldable pub pricedFrom : Observed → Payoff → (ℕ → Float) → ℕ → ℕ → ℕ → Priced
 unfolding firstNo each estimatesOf estimated
 pricedFrom observed payoff last paths nonPositive steps =
-    onceAsked (firstNo (lastQuestions observed last paths)) steps
+    onceAsked (firstNo (lastQuestions observed last paths)) (refusedAfter steps)
     (estimated (estimatesOf payoff (λ p. underlyingOf (isRooted observed) (last p)) paths) paths nonPositive steps)
 
 -- "22 Is each step finite? (path, step, quantity, steps taken)"; "All paths run before any squared value is checked"
@@ -116,13 +119,34 @@ unfolding runAnswer observation pricedFrom
 pricedRun observed b payoff =
     pricedAfter (runAnswer b) observed payoff (λ p. observation b p (b .schedule .count)) (b .paths)
 
--- ---- what is left in the table
+-- ---- demand 3, of what the call answers
 
--- "No output is written before 22."
-abbrev pub tableOnceAsked : Outcome → List Float → List Float → List Float
-tableOnceAsked Passed written lent = written
-tableOnceAsked (Refused first) written lent = lent
+-- the number, the place and the steps taken that an answer carries
+abbrev pub numberIn : Priced → ℕ
+numberIn (priced.Price estimates paths nonPositive steps) = 0
+numberIn (priced.Refused first steps) = numberOf first
 
--- Demand 3 of the batch, of the table after it and of what its run answers
-abbrev pub Claimed : Batch → List Float → List Float → Type 0
-Claimed b lent after = Demand3 b lent after (runAnswer b)
+abbrev pub placeIn : Priced → List ℕ
+placeIn (priced.Price estimates paths nonPositive steps) = noPlace
+placeIn (priced.Refused first steps) = placeOf first
+
+abbrev pub stepsIn : Priced → ℕ
+stepsIn (priced.Price estimates paths nonPositive steps) = steps
+stepsIn (priced.Refused first steps) = steps
+
+-- a place and a number of steps name the first failure: "(path, step, quantity, steps taken)", the N steps of each earlier path and those of this one up to it
+pub record NamesFirstFailure (b : Batch) (place : List ℕ) (steps : ℕ) : Type 0 where
+  pub path : ℕ
+  pub step : ℕ
+  pub quantity : Quantity
+  pub first : FirstFailure b path step quantity
+  pub taken : steps ≡ pred path * b .schedule .total + step
+  pub named : place ≡ path ∷ step ∷ quantityNumber quantity ∷ steps ∷ []
+
+-- Demand 3 of the batch, of the table after it and of what its run answers; and what the call's own number, place and steps say of the run: "refusal 22 exactly when some
+-- plain walk goes non-finite, naming the first path, step and quantity and the steps taken", and else paths × N steps
+pub record Claimed (b : Batch) (lent after : List Float) (number : ℕ) (place : List ℕ) (steps : ℕ) : Type 0 where
+  pub demand : Demand3 b lent after (runAnswer b)
+  pub exactly : (number ≡ 22) ↔ SomeStepFails b
+  pub refused : number ≡ 22 → NamesFirstFailure b place steps
+  pub went-through : (number ≡ 22 → ⊥) → steps ≡ b .paths * b .schedule .total

@@ -4,4 +4,3 @@ pub mod Batches
 pub mod Vanilla
 pub mod VixBatch
 pub mod Answers
-pub mod Twelve

@@ -5,10 +5,8 @@ use Prim.Native.Nat.{ℕ, pred, _+_, _*_}
 use lib.Dec.{eqb}
 use lib.ListN.{length, getD}
 use lib.Ieee.{Float, nan}
-use Rattle.refusal.specs.declared.Outcome.{Outcome}
-use Rattle.refusal.specs.declared.Outcome.the-variants.{Passed, Refused}
 use Rattle.refusal.specs.declared.Refusal.the-variants.{NonFinite}
-use Rattle.refusal.specs.Questions.{Question, asked, firstNo}
+use Rattle.refusal.specs.Questions.{Question, asked, firstNo, onceAsked, writtenOnceAsked}
 use Rattle.model.specs.declared.Traced.{Traced}
 use Rattle.model.specs.declared.Traced.the-variants as traced
 use Rattle.model.specs.Kernel.{kernelOf}
@@ -34,9 +32,7 @@ traceQuestions m draws lent =
     modelQuestions m
     ++ (asked 20 (eqb (length draws) steps)
     ∷ asked 21
-    (eqb (length (lent .spots)) points
-    && (eqb (length (lent .variances)) points
-    && (eqb (length (lent .zs)) points && eqb (length (lent .factors)) (points * length (m .weights)))))
+    (lengthsRight points (length (m .weights)) (length (lent .spots)) (length (lent .variances)) (length (lent .zs)) (length (lent .factors)))
     ∷ [])
 
 -- the plain walk of a trace: step k takes draw k
@@ -57,22 +53,14 @@ abbrev pub afterWalk : Traced → Trace
 afterWalk (traced.Done steps) = trace.Done steps
 afterWalk (traced.NonFinite step quantity) = trace.Refused (NonFinite 1 step quantity step)
 
-abbrev pub traceAfter : Outcome → Trace → Trace
-traceAfter Passed answered = answered
-traceAfter (Refused refusal) answered = trace.Refused refusal
-
 unfoldable pub traceCall : Model → List Float → Tables → Trace
 unfolding traceQuestions traceWalk traceAnswer
 traceCall m draws lent =
-    traceAfter (firstNo (traceQuestions m draws lent))
+    onceAsked (firstNo (traceQuestions m draws lent)) trace.Refused
     (afterWalk (traceAnswer (traceWalk m draws) (scheduleOf (m .segments) .total)))
 
--- "No output is written before 22."
-abbrev pub tablesOnceAsked : Outcome → Tables → Tables → Tables
-tablesOnceAsked Passed written lent = written
-tablesOnceAsked (Refused refusal) written lent = lent
-
+-- its tables after it
 unfoldable pub traceTables : Model → List Float → Tables → Tables
 unfolding traceQuestions traceWalk
 traceTables m draws lent =
-    tablesOnceAsked (firstNo (traceQuestions m draws lent)) (tablesAfter (traceWalk m draws) lent) lent
+    writtenOnceAsked (firstNo (traceQuestions m draws lent)) lent (tablesAfter (traceWalk m draws) lent)

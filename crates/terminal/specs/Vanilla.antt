@@ -7,14 +7,14 @@ use lib.Ieee.{Float}
 use Rattle.decimal.specs.declared.Decimal.{Decimal}
 use Rattle.decimal.specs.Decimal.{value}
 use Rattle.refusal.specs.declared.Outcome.the-variants.{Passed}
-use Rattle.refusal.specs.Questions.{Question, firstNo}
+use Rattle.refusal.specs.Questions.{Question, firstNo, onceAsked, writtenOnceAsked}
 use Rattle.model.specs.Schedule.{scheduleOf}
 use Rattle.model.specs.Model.{Model, modelQuestions}
 use Rattle.batch.specs.declared.Observed.the-variants.{Spot}
 use Rattle.batch.specs.declared.Payoff.the-variants.{Vanilla}
 use Rattle.batch.specs.Batch.{Batch, tableAfter}
 use Rattle.terminal.specs.declared.Priced.{Priced}
-use Rattle.terminal.specs.Batches.{strikeQuestions, batchQuestions, styleOf, batchFor, onceAsked, pricedRun, tableOnceAsked, Claimed}
+use Rattle.terminal.specs.Batches.{strikeQuestions, batchQuestions, styleOf, batchFor, refusedAfter, pricedRun, Claimed}
 
 -- What a vanilla batch is given: a model, style, strike, mirroring, paths and draws.
 pub record VanillaInputs : Type 0 where
@@ -43,13 +43,14 @@ vanillaBatch i = batchFor (i .model) (i .mirrored) (i .paths) (i .draws) (λ s. 
 unfoldable pub vanillaCall : VanillaInputs → List Float → Priced
 unfolding vanillaQuestions batchFor pricedRun
 vanillaCall i lent =
-    onceAsked (firstNo (vanillaQuestions i lent)) 0
+    onceAsked (firstNo (vanillaQuestions i lent)) (refusedAfter 0)
     (pricedRun Spot (vanillaBatch i) (Vanilla (styleOf (i .put)) (value (i .strike))))
 
 unfoldable pub vanillaTable : VanillaInputs → List Float → List Float
 unfolding vanillaQuestions batchFor tableAfter
-vanillaTable i lent = tableOnceAsked (firstNo (vanillaQuestions i lent)) (tableAfter (vanillaBatch i) lent) lent
+vanillaTable i lent = writtenOnceAsked (firstNo (vanillaQuestions i lent)) lent (tableAfter (vanillaBatch i) lent)
 
 -- "An admitted batch is one that passes every question asked of it before 22": demand 3 of each
-unfoldable pub VanillaClaim : VanillaInputs → List Float → List Float → Type 0
-VanillaClaim i lent after = firstNo (vanillaQuestions i lent) ≡ Passed → Claimed (vanillaBatch i) lent after
+unfoldable pub VanillaClaim : VanillaInputs → List Float → List Float → ℕ → List ℕ → ℕ → Type 0
+VanillaClaim i lent after number place steps =
+    firstNo (vanillaQuestions i lent) ≡ Passed → Claimed (vanillaBatch i) lent after number place steps

@@ -8,7 +8,7 @@ use lib.Ieee.{Float}
 use Rattle.decimal.specs.declared.Decimal.{Decimal}
 use Rattle.decimal.specs.Decimal.{value}
 use Rattle.refusal.specs.declared.Outcome.the-variants.{Passed}
-use Rattle.refusal.specs.Questions.{Question, firstNo}
+use Rattle.refusal.specs.Questions.{Question, firstNo, onceAsked, writtenOnceAsked}
 use Rattle.model.specs.Kernel.{kernelOf}
 use Rattle.model.specs.Parameters.{rawParams}
 use Rattle.model.specs.Schedule.{scheduleOf}
@@ -22,7 +22,7 @@ use Rattle.batch.specs.declared.Payoff.the-variants.{Future, Vanilla}
 use Rattle.batch.specs.Batch.{Batch, tableAfter}
 use Rattle.terminal.specs.declared.Priced.{Priced}
 use Rattle.terminal.specs.declared.VixPayoff.{VixPayoff}
-use Rattle.terminal.specs.Batches.{strikeQuestions, batchQuestions, styleOf, batchFor, onceAsked, pricedRun, tableOnceAsked, Claimed}
+use Rattle.terminal.specs.Batches.{strikeQuestions, batchQuestions, styleOf, batchFor, refusedAfter, pricedRun, Claimed}
 use Rattle.terminal.specs.VixCall.{windowQuestions, formQuestions}
 
 -- What a VIX batch is given: a model, a window, a payoff, paths and draws.
@@ -65,17 +65,18 @@ vixBatch i = batchFor (i .model) false (i .paths) (i .draws) (λ s. rawSquared (
 unfoldable pub vixBatchCall : VixBatchInputs → ℕ → List Float → Priced
 unfolding vixBatchQuestions vixOf batchFor pricedRun
 vixBatchCall i workspace lent =
-    onceAsked (firstNo (vixBatchQuestions i workspace lent)) 0
+    onceAsked (firstNo (vixBatchQuestions i workspace lent)) (refusedAfter 0)
     (pricedRun VixSquared (vixBatch i) (payoffFor (i .payoff)))
 
 unfoldable pub vixBatchTable : VixBatchInputs → ℕ → List Float → List Float
 unfolding vixBatchQuestions vixOf batchFor tableAfter
 vixBatchTable i workspace lent =
-    tableOnceAsked (firstNo (vixBatchQuestions i workspace lent)) (tableAfter (vixBatch i) lent) lent
+    writtenOnceAsked (firstNo (vixBatchQuestions i workspace lent)) lent (tableAfter (vixBatch i) lent)
 
 -- "An admitted batch is one that passes every question asked of it before 22": demand 3 of each
-unfoldable pub VixBatchClaim : VixBatchInputs → ℕ → List Float → List Float → Type 0
-VixBatchClaim i workspace lent after = firstNo (vixBatchQuestions i workspace lent) ≡ Passed → Claimed (vixBatch i) lent after
+unfoldable pub VixBatchClaim : VixBatchInputs → ℕ → List Float → List Float → ℕ → List ℕ → ℕ → Type 0
+VixBatchClaim i workspace lent after number place steps =
+    firstNo (vixBatchQuestions i workspace lent) ≡ Passed → Claimed (vixBatch i) lent after number place steps
 
 -- "Workspace contents are free once 16 passes": the questions up to it
 unfoldable pub throughSixteen : VixBatchInputs → ℕ → List Question

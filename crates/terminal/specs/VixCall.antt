@@ -7,10 +7,9 @@ use lib.ListN.{length}
 use lib.Ieee.{Float}
 use Rattle.decimal.specs.declared.Decimal.{Decimal}
 use Rattle.decimal.specs.Decimal.{isPositive, value}
-use Rattle.refusal.specs.declared.Outcome.{Outcome}
-use Rattle.refusal.specs.declared.Outcome.the-variants.{Passed, Refused}
+use Rattle.refusal.specs.declared.Outcome.the-variants.{Passed}
 use Rattle.refusal.specs.declared.Refusal.the-variants.{Plain}
-use Rattle.refusal.specs.Questions.{Question, asked, firstNo, each}
+use Rattle.refusal.specs.Questions.{Question, asked, firstNo, each, onceAsked}
 use Rattle.model.specs.declared.Kernel.{Kernel}
 use Rattle.model.specs.declared.Params.{Params}
 use Rattle.model.specs.declared.RawParams.{RawParams}
@@ -79,33 +78,23 @@ afterForm (evaluated.Done squared index) = answer.Done squared index
 afterForm evaluated.NotFinite = answer.Refused (Plain 23)
 afterForm evaluated.NotPositive = answer.Refused (Plain 24)
 
--- "a No ends it with the number"
-abbrev pub evaluationAfter : Outcome → Evaluation → Evaluation
-evaluationAfter Passed answered = answered
-evaluationAfter (Refused refusal) answered = answer.Refused refusal
-
 -- a form at the factors given, once they are asked
 unfoldable pub evaluationAt : Vix → Factors → Evaluation
 unfolding givenQuestions evaluation rawFactors
 evaluationAt v given =
-    evaluationAfter (firstNo (givenQuestions (v .n) given))
+    onceAsked (firstNo (givenQuestions (v .n) given)) answer.Refused
     (afterForm (evaluation v (rawFactors (v .n) (given .factors))))
 
 -- the answer, with a workspace of so many doubles lent
 unfoldable pub vixCall : VixInputs → ℕ → Evaluation
 unfolding vixQuestions evaluation vixOf rawFactors
 vixCall i workspace =
-    evaluationAfter (firstNo (vixQuestions i workspace))
+    onceAsked (firstNo (vixQuestions i workspace)) answer.Refused
     (afterForm
     (evaluation (vixOf (kernelOf (i .weights) (i .discounts)) (rawParams (i .params)) (value (i .window)))
     (rawFactors (length (i .weights)) (i .given .factors))))
 
--- "Workspace contents are free once 16 passes": the outcome up to 16, and the workspace as lent and after
-abbrev pub KeptUnlessPassed : Outcome → List Float → List Float → Type 0
-KeptUnlessPassed Passed lent after = Unit
-KeptUnlessPassed (Refused refusal) lent after = after ≡ lent
-
--- the questions up to 16
+-- "Workspace contents are free once 16 passes": the questions up to it
 unfoldable pub throughWorkspace : VixInputs → ℕ → List Question
 unfolding initialQuestions windowQuestions
 throughWorkspace i workspace = initialQuestions i ++ windowQuestions (length (i .weights)) (i .window) workspace

@@ -2,9 +2,9 @@
 ghost use mathlib.Core.Path.{_≡_};
 ghost use Prim.Native.Nat.{_≤_};
 ghost use lib.ListN.{length};
-ghost use Rattle.refusal.specs.Questions.{firstNo};
+ghost use Rattle.refusal.specs.Questions.{firstNo, KeptUnlessPassed};
 ghost use Rattle.vix.specs.Form.{vixInUse};
-ghost use Rattle.terminal.specs.VixCall.{givenQuestions, evaluationAt, vixInputs, vixCall, KeptUnlessPassed, throughWorkspace};
+ghost use Rattle.terminal.specs.VixCall.{givenQuestions, evaluationAt, vixInputs, vixCall, throughWorkspace};
 use crate::Evaluation;
 use crate::Factors;
 use crate::form;

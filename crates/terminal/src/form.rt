@@ -2,9 +2,9 @@
 ghost use mathlib.Core.Path.{_≡_};
 ghost use Prim.Native.Nat.{_≤_};
 ghost use lib.ListN.{length};
-ghost use Rattle.refusal.specs.Questions.{firstNo};
+ghost use Rattle.refusal.specs.Questions.{firstNo, KeptUnlessPassed};
 ghost use Rattle.model.specs.Step.{kernelInUse};
-ghost use Rattle.terminal.specs.VixCall.{windowQuestions, KeptUnlessPassed, FormPrepared};
+ghost use Rattle.terminal.specs.VixCall.{windowQuestions, FormPrepared};
 use crate::FormDoor;
 use decimal::Decimal;
 use model::Kernel;
@@ -12,7 +12,6 @@ use model::RawParams;
 use refusal::Outcome;
 use refusal::Refusal;
 use vix::Built;
-use vix::Vix;
 
 // 15, 1 and 16.
 fn window_questions(n: usize, window: Decimal, workspace: usize) -> Outcome
@@ -32,17 +31,9 @@ fn window_questions(n: usize, window: Decimal, workspace: usize) -> Outcome
 fn refused(refusal: Refusal) -> FormDoor
     ensures { λ r. ⌜ r .outcome ≡ Outcome.Refused refusal ⌝ }
 {
-    let linear = [0.0; 10];
-    let pairs = [0.0; 55];
     FormDoor {
         outcome: Outcome::Refused(refusal),
-        vix: Vix {
-            n: 0,
-            scale: 0.0,
-            constant: 0.0,
-            linear: linear,
-            pairs: pairs,
-        },
+        vix: vix::no_form(0),
     }
 }
 

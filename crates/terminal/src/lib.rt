@@ -17,11 +17,11 @@ ghost use Rattle.numeric.specs.Root.{root};
 ghost use Rattle.decimal.specs.Decimal.{convert};
 ghost use Rattle.model.specs.Model.{given};
 ghost use Rattle.model.specs.Trace.{tables};
-ghost use Rattle.matrix.specs.Call.{reported, answer, written};
-ghost use Rattle.refusal.specs.Questions.{firstNo};
+ghost use Rattle.matrix.specs.Call.{sizeQuestions, exponentialCall, exponentialTable};
+ghost use Rattle.refusal.specs.Questions.{firstNo, KeptUnlessPassed};
 ghost use Rattle.terminal.specs.VixBatch.{vixBatchInputs, vixBatchCall, vixBatchTable, VixBatchClaim, throughSixteen};
-ghost use Rattle.terminal.specs.VixCall.{vixInputs, vixCall, KeptUnlessPassed, throughWorkspace};
-ghost use Rattle.terminal.specs.Answers.{conversion, traced, exponentiated, evaluatedAnswer, vanillaAnswer, vixBatchAnswer};
+ghost use Rattle.terminal.specs.VixCall.{vixInputs, vixCall, throughWorkspace};
+ghost use Rattle.terminal.specs.Answers.{conversion, traced, exponentialAnswer, evaluatedAnswer, vanillaAnswer, vixBatchAnswer};
 ghost use Rattle.terminal.specs.Trace.{traceCall, traceTables};
 ghost use Rattle.terminal.specs.Vanilla.{vanillaInputs, vanillaCall, vanillaTable, VanillaClaim};
 
@@ -247,7 +247,7 @@ pub extern "C" fn qrh_vanilla(
 ) -> VanillaAnswer
     ensures answer { λ r. ⌜ r ≡ vanillaAnswer (vanillaCall (vanillaInputs (given (now (weights .entry)) (now (discounts .entry)) params segments) put strike false paths (now (draws .entry))) (now (seen .entry))) ⌝ }
     ensures table { λ r. ⌜ now (seen .exit) ≡ vanillaTable (vanillaInputs (given (now (weights .entry)) (now (discounts .entry)) params segments) put strike false paths (now (draws .entry))) (now (seen .entry)) ⌝ }
-    ensures claim { λ r. ⌜ VanillaClaim (vanillaInputs (given (now (weights .entry)) (now (discounts .entry)) params segments) put strike false paths (now (draws .entry))) (now (seen .entry)) (now (seen .exit)) ⌝ }
+    ensures claim { λ r. ⌜ VanillaClaim (vanillaInputs (given (now (weights .entry)) (now (discounts .entry)) params segments) put strike false paths (now (draws .entry))) (now (seen .entry)) (now (seen .exit)) (r .number) (r .place) (r .steps) ⌝ }
 {
     vanilla_answer(vanilla::price_vanilla(
         weights,
@@ -278,7 +278,7 @@ pub extern "C" fn qrh_mirrored(
 ) -> VanillaAnswer
     ensures answer { λ r. ⌜ r ≡ vanillaAnswer (vanillaCall (vanillaInputs (given (now (weights .entry)) (now (discounts .entry)) params segments) put strike true paths (now (draws .entry))) (now (seen .entry))) ⌝ }
     ensures table { λ r. ⌜ now (seen .exit) ≡ vanillaTable (vanillaInputs (given (now (weights .entry)) (now (discounts .entry)) params segments) put strike true paths (now (draws .entry))) (now (seen .entry)) ⌝ }
-    ensures claim { λ r. ⌜ VanillaClaim (vanillaInputs (given (now (weights .entry)) (now (discounts .entry)) params segments) put strike true paths (now (draws .entry))) (now (seen .entry)) (now (seen .exit)) ⌝ }
+    ensures claim { λ r. ⌜ VanillaClaim (vanillaInputs (given (now (weights .entry)) (now (discounts .entry)) params segments) put strike true paths (now (draws .entry))) (now (seen .entry)) (now (seen .exit)) (r .number) (r .place) (r .steps) ⌝ }
 {
     vanilla_answer(vanilla::price_vanilla(
         weights,
@@ -302,28 +302,27 @@ pub struct ExponentialAnswer {
 }
 
 fn exponential_answer(call: Answer) -> ExponentialAnswer
-    ensures { λ r. ⌜ r ≡ exponentiated (reported call) ⌝ }
+    ensures { λ r. ⌜ r ≡ exponentialAnswer call ⌝ }
 {
-    let mut answer = ExponentialAnswer {
-        number: 0,
-        place: [0; 4],
-        squarings: 0,
-    };
     match call {
         Answer::Done(squarings) => {
-            answer.squarings = squarings as u64;
+            let count = squarings as u64;
+            ExponentialAnswer {
+                number: 0,
+                place: [0; 4],
+                squarings: count,
+            }
         }
-        Answer::Shape => {
-            answer.number = 26;
-        }
-        Answer::Workspace => {
-            answer.number = 16;
-        }
-        Answer::NotFinite => {
-            answer.number = 17;
+        Answer::Refused(refusal) => {
+            let number = refusal::number(refusal);
+            let place = refusal::place(refusal);
+            ExponentialAnswer {
+                number: number,
+                place: place,
+                squarings: 0,
+            }
         }
     }
-    answer
 }
 
 #[no_mangle]
@@ -333,8 +332,11 @@ pub extern "C" fn qrh_exponential(
     output: &mut [f64],
     workspace: &mut [f64],
 ) -> ExponentialAnswer
-    ensures answer { λ r. ⌜ r ≡ exponentiated (answer dimension (now (input .entry)) (now (output .entry)) (now (workspace .entry))) ⌝ }
-    ensures output { λ r. ⌜ now (output .exit) ≡ written dimension (now (input .entry)) (now (output .entry)) (now (workspace .entry)) ⌝ }
+    ensures answer { λ r. ⌜ r ≡ exponentialAnswer (exponentialCall dimension (now (input .entry)) (length (now (output .entry))) (length (now (workspace .entry)))) ⌝ }
+    ensures output { λ r. ⌜ now (output .exit) ≡ exponentialTable dimension (now (input .entry)) (now (output .entry)) (length (now (workspace .entry))) ⌝ }
+    ensures workspace { λ r. ⌜ KeptUnlessPassed
+        (firstNo (sizeQuestions dimension (length (now (input .entry))) (length (now (output .entry))) (length (now (workspace .entry)))))
+        (now (workspace .entry)) (now (workspace .exit)) ⌝ }
 {
     exponential_answer(matrix::exponentiate(dimension, input, output, workspace))
 }
@@ -458,7 +460,7 @@ pub extern "C" fn qrh_vix_batch(
 ) -> VixBatchAnswer
     ensures answer { λ r. ⌜ r ≡ vixBatchAnswer (vixBatchCall (vixBatchInputs (given (now (weights .entry)) (now (discounts .entry)) params segments) window payoff paths (now (draws .entry))) (length (now (workspace .entry))) (now (seen .entry))) ⌝ }
     ensures table { λ r. ⌜ now (seen .exit) ≡ vixBatchTable (vixBatchInputs (given (now (weights .entry)) (now (discounts .entry)) params segments) window payoff paths (now (draws .entry))) (length (now (workspace .entry))) (now (seen .entry)) ⌝ }
-    ensures claim { λ r. ⌜ VixBatchClaim (vixBatchInputs (given (now (weights .entry)) (now (discounts .entry)) params segments) window payoff paths (now (draws .entry))) (length (now (workspace .entry))) (now (seen .entry)) (now (seen .exit)) ⌝ }
+    ensures claim { λ r. ⌜ VixBatchClaim (vixBatchInputs (given (now (weights .entry)) (now (discounts .entry)) params segments) window payoff paths (now (draws .entry))) (length (now (workspace .entry))) (now (seen .entry)) (now (seen .exit)) (r .number) (r .place) (r .steps) ⌝ }
     ensures workspace { λ r. ⌜ KeptUnlessPassed (firstNo (throughSixteen (vixBatchInputs (given (now (weights .entry)) (now (discounts .entry)) params segments) window payoff paths (now (draws .entry))) (length (now (workspace .entry))))) (now (workspace .entry)) (now (workspace .exit)) ⌝ }
 {
     vix_batch_answer(vix_batch::price_vix(

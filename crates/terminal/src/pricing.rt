@@ -7,7 +7,7 @@ ghost use Rattle.model.specs.Admitted.{Admitted};
 ghost use Rattle.model.specs.Step.{kernelInUse, stateInUse};
 ghost use Rattle.batch.specs.Batch.{Prepared, batchOf, tableAfter};
 ghost use Rattle.batch.specs.Moments.{underlyingOf, estimatesOf, lastSeen};
-ghost use Rattle.terminal.specs.Batches.{styleOf, estimated, pricedFrom, pricedRun, Claimed};
+ghost use Rattle.terminal.specs.Batches.{styleOf, estimated, pricedFrom, pricedRun, numberIn, placeIn, stepsIn, Claimed};
 use crate::Priced;
 use batch::Observed;
 use batch::Payoff;
@@ -117,7 +117,7 @@ pub fn run_batch(
     requires { ⌜ Admitted (kernelInUse kernel) raw (stateInUse (kernel .n) start) ⌝ }
     ensures answer { λ r. ⌜ r ≡ pricedRun observed (batchOf kernel raw start schedule observed form mirrored paths (now (draws .entry))) payoff ⌝ }
     ensures table { λ r. ⌜ now (seen .exit) ≡ tableAfter (batchOf kernel raw start schedule observed form mirrored paths (now (draws .entry))) (now (seen .entry)) ⌝ }
-    ensures claim { λ r. ⌜ Claimed (batchOf kernel raw start schedule observed form mirrored paths (now (draws .entry))) (now (seen .entry)) (now (seen .exit)) ⌝ }
+    ensures claim { λ r. ⌜ Claimed (batchOf kernel raw start schedule observed form mirrored paths (now (draws .entry))) (now (seen .entry)) (now (seen .exit)) (numberIn r) (placeIn r) (stepsIn r) ⌝ }
 {
     let ran = paths::run_paths(
         kernel,

@@ -1,6 +1,7 @@
 // Pricing a vanilla batch, mirrored or not.
 ghost use mathlib.Core.Path.{_≡_};
 ghost use Rattle.model.specs.Model.{given};
+ghost use Rattle.terminal.specs.Batches.{numberIn, placeIn, stepsIn};
 ghost use Rattle.terminal.specs.Vanilla.{vanillaInputs, vanillaCall, vanillaTable, VanillaClaim};
 use crate::Priced;
 use crate::batch_doors;
@@ -11,21 +12,8 @@ use model::Params;
 use model::Segments;
 use model::doors::given;
 use refusal::Outcome;
-use vix::Vix;
 
 // A vanilla observes the spot, so no form of the VIX is looked at.
-fn no_form() -> Vix
-    ensures { λ r. ⌜ r .n ≡ 0 ⌝ }
-{
-    Vix {
-        n: 0,
-        scale: 0.0,
-        constant: 0.0,
-        linear: [0.0; 10],
-        pairs: [0.0; 55],
-    }
-}
-
 pub fn price_vanilla(
     weights: &[f64],
     discounts: &[f64],
@@ -40,7 +28,7 @@ pub fn price_vanilla(
 ) -> Priced
     ensures answer { λ r. ⌜ r ≡ vanillaCall (vanillaInputs (given (now (weights .entry)) (now (discounts .entry)) params segments) put strike mirrored paths (now (draws .entry))) (now (seen .entry)) ⌝ }
     ensures table { λ r. ⌜ now (seen .exit) ≡ vanillaTable (vanillaInputs (given (now (weights .entry)) (now (discounts .entry)) params segments) put strike mirrored paths (now (draws .entry))) (now (seen .entry)) ⌝ }
-    ensures claim { λ r. ⌜ VanillaClaim (vanillaInputs (given (now (weights .entry)) (now (discounts .entry)) params segments) put strike mirrored paths (now (draws .entry))) (now (seen .entry)) (now (seen .exit)) ⌝ }
+    ensures claim { λ r. ⌜ VanillaClaim (vanillaInputs (given (now (weights .entry)) (now (discounts .entry)) params segments) put strike mirrored paths (now (draws .entry))) (now (seen .entry)) (now (seen .exit)) (numberIn r) (placeIn r) (stepsIn r) ⌝ }
 {
     let prepared = given::prepare(weights, discounts, params, segments);
     let first = prepared.outcome;
@@ -72,7 +60,7 @@ pub fn price_vanilla(
         start,
         schedule,
         Observed::Spot,
-        no_form(),
+        vix::no_form(0),
         pricing::vanilla_payoff(put, strike),
         mirrored,
         paths,

@@ -1,9 +1,9 @@
 // Pricing a VIX batch: a future or a vanilla on the index.
 ghost use mathlib.Core.Path.{_≡_};
 ghost use lib.ListN.{length};
-ghost use Rattle.refusal.specs.Questions.{firstNo};
+ghost use Rattle.refusal.specs.Questions.{firstNo, KeptUnlessPassed};
 ghost use Rattle.model.specs.Model.{given};
-ghost use Rattle.terminal.specs.VixCall.{KeptUnlessPassed};
+ghost use Rattle.terminal.specs.Batches.{numberIn, placeIn, stepsIn};
 ghost use Rattle.terminal.specs.VixBatch.{vixBatchInputs, payoffFor, payoffQuestions, vixBatchCall, vixBatchTable, VixBatchClaim, throughSixteen};
 use crate::Priced;
 use crate::VixPayoff;
@@ -51,7 +51,7 @@ pub fn price_vix(
 ) -> Priced
     ensures answer { λ r. ⌜ r ≡ vixBatchCall (vixBatchInputs (given (now (weights .entry)) (now (discounts .entry)) params segments) window payoff paths (now (draws .entry))) (length (now (workspace .entry))) (now (seen .entry)) ⌝ }
     ensures table { λ r. ⌜ now (seen .exit) ≡ vixBatchTable (vixBatchInputs (given (now (weights .entry)) (now (discounts .entry)) params segments) window payoff paths (now (draws .entry))) (length (now (workspace .entry))) (now (seen .entry)) ⌝ }
-    ensures claim { λ r. ⌜ VixBatchClaim (vixBatchInputs (given (now (weights .entry)) (now (discounts .entry)) params segments) window payoff paths (now (draws .entry))) (length (now (workspace .entry))) (now (seen .entry)) (now (seen .exit)) ⌝ }
+    ensures claim { λ r. ⌜ VixBatchClaim (vixBatchInputs (given (now (weights .entry)) (now (discounts .entry)) params segments) window payoff paths (now (draws .entry))) (length (now (workspace .entry))) (now (seen .entry)) (now (seen .exit)) (numberIn r) (placeIn r) (stepsIn r) ⌝ }
     ensures workspace { λ r. ⌜ KeptUnlessPassed (firstNo (throughSixteen (vixBatchInputs (given (now (weights .entry)) (now (discounts .entry)) params segments) window payoff paths (now (draws .entry))) (length (now (workspace .entry))))) (now (workspace .entry)) (now (workspace .exit)) ⌝ }
 {
     let prepared = given::prepare(weights, discounts, params, segments);

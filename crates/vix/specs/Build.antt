@@ -45,11 +45,6 @@ abbrev pub builtIf : Bool → Built
 builtIf true = Done
 builtIf false = NotFinite
 
--- the paper's number, 0 where it is no refusal
-abbrev pub builtNumber : Built → ℕ
-builtNumber Done = 0
-builtNumber NotFinite = 17
-
 pub record VixPrepared (k : Kernel) (p : RawParams) (window : Float) (r : VixDoor) : Type 0 where
   pub outcome : r .outcome ≡ builtIf (momentsFinite k p window)
   pub factors : r .vix .n ≡ k .n

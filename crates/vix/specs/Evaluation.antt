@@ -1,7 +1,6 @@
 -- The evaluation of the VIX at a factor state. Definitions only.
 use mathlib.Core.Bool.{Bool, true, false}
 use mathlib.Core.List.{List}
-use Prim.Native.Nat.{ℕ}
 use lib.Ieee.{Float, binary64, lt}
 use Rattle.numeric.specs.Double.{plusZero, finite}
 use Rattle.numeric.specs.Root.{root}
@@ -24,9 +23,3 @@ evaluated squared = evaluatedBy (finite squared) (lt plusZero squared) squared
 unfoldable pub evaluation : Vix → List Float → Evaluated
 unfolding rawSquared evaluated
 evaluation v factors = evaluated (rawSquared v factors)
-
--- the paper's number, 0 where it is no refusal
-abbrev pub evaluatedNumber : Evaluated → ℕ
-evaluatedNumber (Done squared index) = 0
-evaluatedNumber NotFinite = 23
-evaluatedNumber NotPositive = 24

@@ -58,16 +58,3 @@ pub(crate) fn of_matrix(n: usize, dim: usize, window: f64, work: &[f64]) -> Vix
         pairs: of_pairs,
     }
 }
-
-// A form in n factors that is zero.
-pub(crate) fn none(n: usize) -> Vix
-    ensures { λ r. ⌜ r .n ≡ n ⌝ }
-{
-    Vix {
-        n: n,
-        scale: 0.0,
-        constant: 0.0,
-        linear: [0.0; 10],
-        pairs: [0.0; 55],
-    }
-}

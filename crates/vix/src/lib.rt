@@ -102,6 +102,19 @@ pub fn dimension_of(n: usize) -> usize
     n + state::pairs_before(n, n) + 2
 }
 
+// A form in n factors that is zero, where none is built or looked at.
+pub fn no_form(n: usize) -> Vix
+    ensures { λ r. ⌜ r .n ≡ n ⌝ }
+{
+    Vix {
+        n: n,
+        scale: 0.0,
+        constant: 0.0,
+        linear: [0.0; 10],
+        pairs: [0.0; 55],
+    }
+}
+
 // The form over a window, by the exponential of the moment system's generator. work is 5 × dimension²
 // doubles, and what it held before is lost.
 pub fn build(k: Kernel, p: RawParams, window: f64, work: &mut [f64]) -> VixDoor
@@ -114,7 +127,7 @@ pub fn build(k: Kernel, p: RawParams, window: f64, work: &mut [f64]) -> VixDoor
     match matrix::exponential(dim, work) {
         Exponentiated::NotFinite => VixDoor {
             outcome: Built::NotFinite,
-            vix: form::none(n),
+            vix: no_form(n),
         },
         Exponentiated::Done(_) => VixDoor {
             outcome: Built::Done,

@@ -12,7 +12,7 @@ use Rattle.matrix.specs.declared.Exponentiated.{Exponentiated}
 use Rattle.matrix.specs.Workspace.{matrixAt, exponentiated}
 use Rattle.matrix.specs.Call.{shapeRight}
 use Rattle.matrix.proofs.Workspaces.{long-front, long-put, first-put}
-use Rattle.matrix.proofs.Answers.{Right, right, shape-no, workspace-no, answered, written-is, held}
+use Rattle.matrix.proofs.Answers.{Right, right, shape-no, workspace-no, not-finite, done, held}
 use Rattle.matrix.specs.Exponential.{exponential}
 use Rattle.matrix.proofs.exponentiate.Statement.{statement}
 use Rattle.matrix.proofs.exponentiate.Tie as tie
@@ -63,9 +63,7 @@ shape-is-right-requires : tie.Need-shape-is-right-requires
 shape-is-right-requires c κs = search needs
 
 returns : tie.Need-returns
-returns c =
-    let e = shape-no _ _ _ _ (sym (c .before .shape-is-right .ensures) ∙ not-true _ (c .if1 .taken)) in
-    (e, written-is _ _ _ _ _ e)
+returns c = shape-no _ _ _ (c .before .before .before .before .before .args .work .now) (sym (c .before .shape-is-right .ensures) ∙ not-true _ (c .if1 .taken))
 
 mul-size : tie.Need-mul-size
 mul-size c = omega (arith, small (right-shape c .most))
@@ -74,9 +72,7 @@ mul-if2 : tie.Need-mul-if2
 mul-if2 c = omega (arith, small (right-shape c .most))
 
 returns-2 : tie.Need-returns-2
-returns-2 c =
-    let e = workspace-no _ _ _ _ (shape (c .before)) (c .if2 .taken) in
-    (e, written-is _ _ _ _ _ e)
+returns-2 c = workspace-no _ _ _ (start (c .before) .args .work .now) (shape (c .before)) (c .if2 .taken)
 
 slice-relend-prefix-copy : tie.Need-slice-relend-prefix-copy
 slice-relend-prefix-copy c = search needs
@@ -114,8 +110,7 @@ returns-3 : tie.Need-returns-3
 returns-3 c =
     let e = c .before .before .before .before in
     let s = asked (copied e) in
-    let r = answered _ _ _ _ (shape (s .before)) (s .if2 .left) Exponentiated.NotFinite (sym (c .enum-told .given .1) ∙ outcome-is e) in
-    (r, written-is _ _ _ _ _ r)
+    not-finite _ _ _ (start (s .before) .args .work .now) (shape (s .before)) (s .if2 .left) (e .exponential .last .1 .0) (sym (c .enum-told .given .1) ∙ outcome-is e)
 
 same-length-2 : tie.Need-same-length-2
 same-length-2 c = search needs
@@ -128,10 +123,8 @@ returns-4 c =
     let told = c .before .before .before .before .before .before .squarings .given in
     let e = c .before .before .before .before .before .before .before .before .before .before in
     let s = asked (copied e) in
-    let r = answered _ _ _ _ (shape (s .before)) (s .if2 .left) (Exponentiated.Done (told .0 .0)) (sym (told .1) ∙ outcome-is e) in (
-      r,
-      c .before .before .copy2 .ensures ∙ held _ _ _ _ (told .1) (e .exponential .ensures .1) ∙ ap (exponential _) (input-kept (copied e)) ∙ written-is _ _ _ _ _ r,
-    )
+    let result = c .before .before .copy2 .ensures ∙ held _ _ _ _ (told .1) (e .exponential .ensures .1) ∙ ap (exponential _) (input-kept (copied e)) in
+    done _ _ _ (start (s .before) .args .work .now) (shape (s .before)) (s .if2 .left) (e .exponential .last .1 .0) (told .0 .0) _ (sym (told .1) ∙ outcome-is e) result
 
 pub exponentiate-spec : {M : Type 1} → statement M
 exponentiate-spec =

@@ -1,7 +1,7 @@
--- `terminal::qrh_exponential` meets its contract: the matrix call's, with its answer as `exponentiated` lists it. Assumes nothing.
+-- `terminal::qrh_exponential` meets its contract: the matrix call's, with its answer as `exponentialAnswer` lists it. Assumes nothing.
 use mathlib.Core.Path.{ap, _∙_}
 use borrow.Author.Needs.{needs}
-use Rattle.terminal.specs.Answers.{exponentiated}
+use Rattle.terminal.specs.Answers.{exponentialAnswer}
 use Rattle.terminal.proofs.qrh_exponential.Statement.{statement}
 use Rattle.terminal.proofs.qrh_exponential.Tie as tie
 
@@ -20,7 +20,7 @@ same-length-2 c = search needs
 returns : tie.Need-returns
 returns c =
     let call = c .before .before .before .before .before .exponentiate in
-    (c .exponential-answer .ensures ∙ ap exponentiated (call .ensures .0), call .ensures .1)
+    (c .exponential-answer .ensures ∙ ap exponentialAnswer (call .ensures .0), call .ensures .1)
 
 pub qrh-exponential-spec : {M : Type 1} → statement M
 qrh-exponential-spec =

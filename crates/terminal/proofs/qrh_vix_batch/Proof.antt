@@ -2,6 +2,8 @@
 use mathlib.Core.Path.{ap, _∙_}
 use borrow.Author.Needs.{needs}
 use Rattle.terminal.specs.Answers.{vixBatchAnswer}
+use Rattle.terminal.specs.VixBatch.{VixBatchClaim}
+use Rattle.terminal.proofs.Claims.{vix-told}
 use Rattle.terminal.proofs.qrh_vix_batch.Statement.{statement}
 use Rattle.terminal.proofs.qrh_vix_batch.Tie as tie
 
@@ -19,8 +21,8 @@ same-length-2 c = search needs
 
 returns : tie.Need-returns
 returns c =
-    let priced = c .before .before .before .before .before .price-vix .ensures in
-    (c .vix-batch-answer .ensures ∙ ap vixBatchAnswer (priced .0), priced .1)
+    let call = c .before .before .before .before .before .price-vix in
+    (c .vix-batch-answer .ensures ∙ ap vixBatchAnswer (call .ensures .0), (call .ensures .1 .0, (vix-told (VixBatchClaim _ _ _ _) (call .result) (c .vix-batch-answer .ensures) (call .ensures .1 .1 .0), call .ensures .1 .1 .1)))
 
 pub qrh-vix-batch-spec : {M : Type 1} → statement M
 qrh-vix-batch-spec =

@@ -29,8 +29,8 @@ exponential-requires c κs =
 enum-told : tie.Need-enum-told
 enum-told c = search needs
 
-none-requires : tie.Need-none-requires
-none-requires c κs = search needs
+no-form-requires : tie.Need-no-form-requires
+no-form-requires c κs = search needs
 
 enum-told-2 : tie.Need-enum-told-2
 enum-told-2 c = search needs
@@ -53,7 +53,7 @@ returns c =
     let dim = filled .before .before in
     let start = dim .before .before in
     not-finite (kernelInUse (start .args .k)) (start .args .p) (start .args .window) (dim .dimension-of .ensures) (filled .fill .last .1 .1 .1 .1 .0) (filled .fill .ensures) (done .exponential .ensures .0)
-    (c .none .result) (told .1) (c .none .ensures)
+    (c .no-form .result) (told .1) (c .no-form .ensures)
 
 same-length-2 : tie.Need-same-length-2
 same-length-2 c = search needs
@@ -76,7 +76,7 @@ build-spec =
     fill-requires
     exponential-requires
     enum-told
-    none-requires
+    no-form-requires
     enum-told-2
     of-matrix-requires
     same-length

@@ -5,7 +5,8 @@ use borrow.Author.Needs.{needs}
 use Rattle.refusal.specs.declared.Outcome.the-variants.{Passed}
 use Rattle.refusal.specs.Questions.{firstNo, orLater}
 use Rattle.terminal.specs.VixCall.{VixInputs, vixInputs, throughWorkspace}
-use Rattle.terminal.proofs.VixCall.{kept-same, initial-refused, initial-asked, kept-through, door-refused, form-few, evaluated}
+use Rattle.refusal.proofs.Laws.{kept-same}
+use Rattle.terminal.proofs.VixCall.{initial-refused, initial-asked, kept-through, door-refused, form-few, evaluated}
 use Rattle.terminal.proofs.evaluating.evaluate.Statement.{statement}
 use Rattle.terminal.proofs.evaluating.evaluate.Tie as tie
 

@@ -6,7 +6,8 @@ use Rattle.refusal.specs.declared.Outcome.the-variants.{Passed}
 use Rattle.refusal.specs.Questions.{firstNo}
 use Rattle.model.specs.Step.{kernelInUse}
 use Rattle.terminal.specs.VixCall.{windowQuestions}
-use Rattle.terminal.proofs.VixCall.{kept-same, kept-free, workspace-right, form-refused, form-not-finite, form-built}
+use Rattle.refusal.proofs.Laws.{kept-same, kept-free}
+use Rattle.terminal.proofs.VixCall.{workspace-right, form-refused, form-not-finite, form-built}
 use Rattle.terminal.proofs.form.prepare.Statement.{statement}
 use Rattle.terminal.proofs.form.prepare.Tie as tie
 

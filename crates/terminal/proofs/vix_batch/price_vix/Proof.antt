@@ -6,11 +6,11 @@ use borrow.Author.Needs.{needs}
 use lib.ListN.{length}
 use lib.Ieee.{Float}
 use Rattle.refusal.specs.declared.Outcome.the-variants.{Passed}
-use Rattle.refusal.specs.Questions.{firstNo, orLater}
+use Rattle.refusal.specs.Questions.{firstNo, orLater, KeptUnlessPassed}
 use Rattle.model.specs.Model.{given, ModelReady}
-use Rattle.terminal.specs.VixCall.{windowQuestions, KeptUnlessPassed}
+use Rattle.terminal.specs.VixCall.{windowQuestions}
 use Rattle.terminal.specs.VixBatch.{VixBatchInputs, vixBatchInputs, throughSixteen}
-use Rattle.terminal.proofs.VixCall.{kept-same}
+use Rattle.refusal.proofs.Laws.{kept-same}
 use Rattle.terminal.proofs.VixAsked.{second, model-refused, ready, kept, second-refused, sizes-refused, handed, priced-through}
 use Rattle.terminal.proofs.vix_batch.price_vix.Statement.{statement}
 use Rattle.terminal.proofs.vix_batch.price_vix.Tie as tie

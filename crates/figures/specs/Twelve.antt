@@ -19,11 +19,11 @@ use Rattle.model.specs.Schedule.{stepsThrough}
 use Rattle.model.specs.Figures.{decimal, negative, kernel, params, oneStep}
 use Rattle.model.specs.Model.{given}
 use Rattle.model.specs.Trace.{Tables, tables, tableAfter}
-use Rattle.matrix.specs.Call.{answer, written}
-use Rattle.terminal.specs.Answers.{noPlace, conversion, traced, vanillaAnswer, exponentiated, evaluatedAnswer}
+use Rattle.matrix.specs.Call.{exponentialCall, exponentialTable}
+use Rattle.terminal.specs.Answers.{noPlace, conversion, traced, vanillaAnswer, exponentialAnswer, evaluatedAnswer}
 use Rattle.terminal.specs.Trace.{traceCall, traceTables}
 use Rattle.terminal.specs.Vanilla.{vanillaInputs, vanillaCall}
 use Rattle.terminal.specs.VixCall.{vixInputs, vixCall}
 
 -- an answer's number and place, its doubles and its whole numbers
 pub record Figure : Type 0 where
@@ -67,9 +67,8 @@ priced draws =
 abbrev pub powered : List Float → Figure
 powered input =
     let zeros = replicate 4 plusZero in
-    let workspace = replicate 20 plusZero in
-    let a = exponentiated (answer 2 input zeros workspace) in
-    figure (a .number) (a .place) (written 2 input zeros workspace) (a .squarings ∷ [])
+    let a = exponentialAnswer (exponentialCall 2 input 4 20) in
+    figure (a .number) (a .place) (exponentialTable 2 input zeros 20) (a .squarings ∷ [])
 
 -- with a = 0, at the factor 0
 abbrev pub calm : Params
@@ -141,7 +140,7 @@ next : {x y : Figure} {xs ys : List Figure} → x ≡ y → xs ≡ ys → _≡_ 
 next e f = cc
 
 pub figures : answered ≡ expected
-unfolding convert root ofBits round value traceCall traceTables vanillaCall answer written vixCall firstNo each inRange rangeQuestions scaleQuestions stepsThrough isNegative isPositive scaleFits tableAfter
+unfolding convert root ofBits round value traceCall traceTables vanillaCall exponentialCall exponentialTable vixCall firstNo each inRange rangeQuestions scaleQuestions stepsThrough isNegative isPositive scaleFits tableAfter
 figures =
     next refl
     (next refl
