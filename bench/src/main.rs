@@ -34,8 +34,11 @@ const PATHS: usize = 4096;
 fn conversions(table: &mut Table) {
     // name, scales, sizes in bits
     let classes = [
+        ("convert, scale 0, 1 to 53 bits", (0, 0), (1, 53)),
         ("convert, scale 2, 1 to 32 bits", (2, 2), (1, 32)),
         ("convert, scale 4 to 8, 20 to 50 bits", (4, 8), (20, 50)),
+        ("convert, scale 13, 64 bits", (13, 13), (64, 64)),
+        ("convert, scale 28, 96 bits", (28, 28), (96, 96)),
         ("convert, scale 0 to 28, 1 to 96 bits", (0, 28), (1, 96)),
     ];
     let mut draws = Draws::new(1);

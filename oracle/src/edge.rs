@@ -1,4 +1,4 @@
-//! What crosses the C edge, as C has it: edge.h declares the same.
+//! What crosses the C edge, as C has it: include/qrh.h declares the same.
 
 use std::fmt;
 
@@ -148,7 +148,7 @@ mod tests {
     use super::*;
     use std::mem::{offset_of, size_of};
 
-    /// The sizes and offsets that edge.h asserts.
+    /// The sizes and offsets that include/qrh.h has.
     #[test]
     fn layouts() {
         assert_eq!(size_of::<Decimal>(), 16);

@@ -14,16 +14,17 @@ use Rattle.decimal.specs.Figures as decimals
 use Rattle.refusal.specs.Questions.{firstNo, each}
 use Rattle.model.specs.declared.Params.{Params}
 use Rattle.model.specs.Kernel.{inRange}
-use Rattle.model.specs.Parameters.{rangeQuestions, scaleQuestions}
+use Rattle.doors.specs.Questions.{rangeQuestions, scaleQuestions}
 use Rattle.model.specs.Schedule.{stepsThrough}
 use Rattle.model.specs.Figures.{decimal, negative, kernel, params, oneStep}
-use Rattle.model.specs.Model.{given}
+use Rattle.doors.specs.Model.{given}
 use Rattle.model.specs.Trace.{Tables, tables, tableAfter}
 use Rattle.matrix.specs.Call.{exponentialCall, exponentialTable}
-use Rattle.terminal.specs.Answers.{noPlace, conversion, traced, vanillaAnswer, exponentialAnswer, evaluatedAnswer}
-use Rattle.terminal.specs.Trace.{traceCall, traceTables}
-use Rattle.terminal.specs.Vanilla.{vanillaInputs, vanillaCall}
-use Rattle.terminal.specs.VixCall.{vixInputs, vixCall}
+use Rattle.refusal.specs.Refusal.{noPlace}
+use Rattle.terminal.specs.Answers.{conversion, traced, vanillaAnswer, exponentialAnswer, evaluatedAnswer}
+use Rattle.calls.specs.Trace.{traceCall, traceTables}
+use Rattle.calls.specs.Vanilla.{vanillaInputs, vanillaCall}
+use Rattle.calls.specs.VixCall.{vixInputs, vixCall}
 
 -- an answer's number and place, its doubles and its whole numbers
 pub record Figure : Type 0 where

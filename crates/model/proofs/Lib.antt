@@ -6,8 +6,3 @@ pub mod Containment
 pub mod WalkLaws
 pub mod Points
 pub mod Tracing
-pub mod Entries
-pub mod Laying
-mod Elements
-pub mod Admitting
-pub mod Preparing

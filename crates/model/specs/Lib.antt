@@ -6,8 +6,6 @@ pub mod Walk
 pub mod Rates
 pub mod Laid
 pub mod Admitted
-pub mod Doors
 pub mod Laws
 pub mod Trace
 pub mod Figures
-pub mod Model

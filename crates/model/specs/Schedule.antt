@@ -1,19 +1,16 @@
 -- A schedule: segments of a Decimal dt and a step count, laid end to end. Definitions only.
 use mathlib.Core.Bool.{Bool, true, false, _&&_}
-use mathlib.Core.List.{List, [], _∷_, _++_}
 use Prim.Native.Nat.{ℕ, zero, suc, pred, _+_}
 use lib.Dec.{leb, ltb}
 use lib.ListN.{getD, take}
 use lib.Ieee.{Float, nan, binary64}
 use Rattle.numeric.specs.Root.{root}
 use Rattle.numeric.specs.Table.{tabulate}
-use Rattle.decimal.specs.Decimal.{isPositive, value}
-use Rattle.refusal.specs.declared.Refusal.the-variants.{AtSegment}
-use Rattle.refusal.specs.Questions.{Question, ask, asked, each}
+use Rattle.decimal.specs.Decimal.{value}
 use Rattle.model.specs.declared.Segment.{Segment}
 use Rattle.model.specs.declared.Segments.{Segments}
 use Rattle.model.specs.declared.Schedule.{Schedule}
-use Rattle.model.specs.Parameters.{zeroDecimal, scaleQuestion}
+use Rattle.model.specs.Parameters.{zeroDecimal}
 
 -- segment i as given, counted from 1
 abbrev pub segmentAt : Segments → ℕ → Segment
@@ -23,23 +20,6 @@ segmentAt g i = getD (g .segments) (pred i) (record { dt = zeroDecimal; steps = 
 unfoldable pub stepsThrough : Segments → ℕ → ℕ
 stepsThrough g zero = 0
 stepsThrough g (suc i) = stepsThrough g i + segmentAt g (suc i) .steps
-
--- "13 dt > 0 and steps > 0? 14 Running total ≤ 4,096? (segment, for both) Then 1 for its dt": of segment i, with the running total that includes it
-abbrev pub questionsOf : Segment → ℕ → ℕ → List Question
-questionsOf s i total =
-    ask (AtSegment 13 i) (isPositive (s .dt) && ltb 0 (s .steps))
-    ∷ ask (AtSegment 14 i) (leb total 4096)
-    ∷ scaleQuestion (s .dt)
-    ∷ []
-
--- "Segment by segment"
-abbrev pub segmentQuestions : Segments → ℕ → List Question
-segmentQuestions g i = questionsOf (segmentAt g i) i (stepsThrough g i)
-
--- "11 Is there a segment? 12 At most 64?", then segment by segment
-unfoldable pub scheduleQuestions : Segments → List Question
-scheduleQuestions g =
-    (asked 11 (leb 1 (g .count)) ∷ asked 12 (leb (g .count) 64) ∷ []) ++ each (segmentQuestions g) (g .count)
 
 -- the schedule as converted; "sqrt_dt is the root of the converted dt"
 unfoldable pub scheduleOf : Segments → Schedule

@@ -1,9 +1,7 @@
 // The quadratic rough Heston model: kernel tables, parameters, schedule, state and step.
 use decimal::Decimal;
-use refusal::Outcome;
 use refusal::Quantity;
 
-pub mod doors;
 pub mod draws;
 pub mod scheme;
 pub mod trace;
@@ -85,29 +83,4 @@ pub struct Rates {
 pub enum Traced {
     Done { steps: u64 },
     NonFinite { step: u64, quantity: Quantity },
-}
-
-// A door answers what its questions came to and, where all passed, what it prepared.
-pub struct KernelDoor {
-    pub outcome: Outcome,
-    pub kernel: Kernel,
-}
-
-pub struct ParamsDoor {
-    pub outcome: Outcome,
-    pub raw: RawParams,
-    pub start: State,
-}
-
-pub struct ScheduleDoor {
-    pub outcome: Outcome,
-    pub schedule: Schedule,
-}
-
-pub struct ModelDoor {
-    pub outcome: Outcome,
-    pub kernel: Kernel,
-    pub raw: RawParams,
-    pub start: State,
-    pub schedule: Schedule,
 }

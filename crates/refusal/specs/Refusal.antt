@@ -20,9 +20,12 @@ numberOf (NonFinite path step quantity steps) = 22
 numberOf (OnPath number path) = number
 numberOf (Estimate which) = 25
 
--- four numbers in the order of the paper, 0 where there is none
+-- a place is four numbers in the order of the paper, 0 where there is none
+abbrev pub noPlace : List ℕ
+noPlace = 0 ∷ 0 ∷ 0 ∷ 0 ∷ []
+
 abbrev pub placeOf : Refusal → List ℕ
-placeOf (Plain number) = 0 ∷ 0 ∷ 0 ∷ 0 ∷ []
+placeOf (Plain number) = noPlace
 placeOf (InTable table index) = table ∷ index ∷ 0 ∷ 0 ∷ []
 placeOf (AtSegment number segment) = segment ∷ 0 ∷ 0 ∷ 0 ∷ []
 placeOf (NonFinite path step quantity steps) = path ∷ step ∷ quantityNumber quantity ∷ steps ∷ []

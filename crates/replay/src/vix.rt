@@ -17,13 +17,13 @@ use crate::tables::workspace;
 use crate::tables::zeros;
 use crate::words::after;
 use crate::words::after_list;
+use calls::Factors;
+use calls::VixPayoff;
 use decimal::Decimal;
 use model::Params;
 use model::Segments;
-use terminal::Factors;
 use terminal::VixAnswer;
 use terminal::VixBatchAnswer;
-use terminal::VixPayoff;
 
 fn given(file: &[u8], at: usize) -> Factors {
     let factors = factors(file, after(at, 1));

@@ -1,30 +1,26 @@
 -- "If an answer is an enum, a definition lists this paper's number and values for each of its cases": an answer as it crosses the edge.
 -- Its number is 0 where the call is answered; a place has four numbers, 0 where it has none; a refusal's values are zeros.
-use mathlib.Core.List.{List, [], _∷_}
 use Prim.Native.Nat.{ℕ}
 use Rattle.decimal.specs.declared.Converted.{Converted}
 use Rattle.decimal.specs.declared.Converted.the-variants.{Value, ScaleTooLarge}
 use Rattle.decimal.specs.Decimal.{plusZero}
 use Rattle.refusal.specs.declared.Refusal.{Refusal}
 use Rattle.refusal.specs.declared.Refusal.the-variants.{Plain, InTable, AtSegment, NonFinite, OnPath, Estimate}
-use Rattle.refusal.specs.Refusal.{numberOf, placeOf}
+use Rattle.refusal.specs.Refusal.{numberOf, placeOf, noPlace}
 use Rattle.matrix.specs.declared.Answer.{Answer}
 use Rattle.matrix.specs.declared.Answer.the-variants as exponentiation
 use Rattle.terminal.specs.declared.Conversion.{Conversion}
-use Rattle.terminal.specs.declared.Trace.{Trace}
-use Rattle.terminal.specs.declared.Trace.the-variants as trace
+use Rattle.calls.specs.declared.Trace.{Trace}
+use Rattle.calls.specs.declared.Trace.the-variants as trace
 use Rattle.terminal.specs.declared.TraceAnswer.{TraceAnswer}
 use Rattle.terminal.specs.declared.ExponentialAnswer.{ExponentialAnswer}
-use Rattle.terminal.specs.declared.Evaluation.{Evaluation}
-use Rattle.terminal.specs.declared.Evaluation.the-variants as evaluation
+use Rattle.calls.specs.declared.Evaluation.{Evaluation}
+use Rattle.calls.specs.declared.Evaluation.the-variants as evaluation
 use Rattle.terminal.specs.declared.VixAnswer.{VixAnswer}
-use Rattle.terminal.specs.declared.Priced.{Priced}
-use Rattle.terminal.specs.declared.Priced.the-variants as priced
+use Rattle.calls.specs.declared.Priced.{Priced}
+use Rattle.calls.specs.declared.Priced.the-variants as priced
 use Rattle.terminal.specs.declared.VanillaAnswer.{VanillaAnswer}
 use Rattle.terminal.specs.declared.VixBatchAnswer.{VixBatchAnswer}
-
-abbrev pub noPlace : List ℕ
-noPlace = 0 ∷ 0 ∷ 0 ∷ 0 ∷ []
 
 -- the steps taken at a refusal: none but at 22, which has them for its fourth place
 abbrev pub stepsTaken : Refusal → ℕ

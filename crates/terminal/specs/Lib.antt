@@ -1,6 +1,1 @@
-pub mod Trace
-pub mod VixCall
-pub mod Batches
-pub mod Vanilla
-pub mod VixBatch
 pub mod Answers

@@ -1,85 +1,30 @@
 // The outer calls, as C and Rust programs link them (include/qrh.h). An answer begins with its
 // number, 0 where the call is answered and else the refusal's, and its place, 0 where there is none.
-use batch::Estimates;
+use calls::Evaluation;
+use calls::Factors;
+use calls::Priced;
+use calls::Trace;
+use calls::VixPayoff;
 use decimal::Converted;
 use decimal::Decimal;
 use matrix::Answer;
 use model::Params;
 use model::Segments;
-use refusal::Outcome;
-use refusal::Refusal;
-use vix::Vix;
 ghost use mathlib.Core.Path.{_≡_};
 ghost use mathlib.Core.Bool.{true, false};
 ghost use lib.ListN.{length};
 ghost use lib.Ieee.{binary64};
 ghost use Rattle.numeric.specs.Root.{root};
 ghost use Rattle.decimal.specs.Decimal.{convert};
-ghost use Rattle.model.specs.Model.{given};
+ghost use Rattle.doors.specs.Model.{given};
 ghost use Rattle.model.specs.Trace.{tables};
 ghost use Rattle.matrix.specs.Call.{sizeQuestions, exponentialCall, exponentialTable};
 ghost use Rattle.refusal.specs.Questions.{firstNo, KeptUnlessPassed};
-ghost use Rattle.terminal.specs.VixBatch.{vixBatchInputs, vixBatchCall, vixBatchTable, VixBatchClaim, throughSixteen};
-ghost use Rattle.terminal.specs.VixCall.{vixInputs, vixCall, throughWorkspace};
+ghost use Rattle.calls.specs.VixBatch.{vixBatchInputs, vixBatchCall, vixBatchTable, VixBatchClaim, throughSixteen};
+ghost use Rattle.calls.specs.VixCall.{vixInputs, vixCall, throughWorkspace};
 ghost use Rattle.terminal.specs.Answers.{conversion, traced, exponentialAnswer, evaluatedAnswer, vanillaAnswer, vixBatchAnswer};
-ghost use Rattle.terminal.specs.Trace.{traceCall, traceTables};
-ghost use Rattle.terminal.specs.Vanilla.{vanillaInputs, vanillaCall, vanillaTable, VanillaClaim};
-
-pub mod batch_doors;
-pub mod evaluating;
-pub mod form;
-pub mod pricing;
-pub mod tracing;
-pub mod vanilla;
-pub mod vix_batch;
-
-// What a trace answers: the steps taken, all finite, or the first question that got a No.
-pub enum Trace {
-    Done { steps: u64 },
-    Refused(Refusal),
-}
-
-// What pricing a batch answers: its estimates, or the first question that got a No, with the steps
-// taken by then.
-pub enum Priced {
-    Price {
-        estimates: Estimates,
-        paths: u64,
-        non_positive: u64,
-        steps: u64,
-    },
-    Refused {
-        refusal: Refusal,
-        steps: u64,
-    },
-}
-
-// The factors at which the VIX is wanted, in the first `count` places.
-#[repr(C)]
-pub struct Factors {
-    pub count: usize,
-    pub factors: [Decimal; 10],
-}
-
-// A future on the index, or a vanilla on it with its style and its strike.
-#[repr(C)]
-pub struct VixPayoff {
-    pub future: bool,
-    pub put: bool,
-    pub strike: Decimal,
-}
-
-// The door of the VIX answers what its questions came to and, where all passed, the form.
-pub struct FormDoor {
-    pub outcome: Outcome,
-    pub vix: Vix,
-}
-
-// What a VIX evaluation answers.
-pub enum Evaluation {
-    Done { squared: f64, index: f64 },
-    Refused(Refusal),
-}
+ghost use Rattle.calls.specs.Trace.{traceCall, traceTables};
+ghost use Rattle.calls.specs.Vanilla.{vanillaInputs, vanillaCall, vanillaTable, VanillaClaim};
 
 #[repr(C)]
 pub struct Conversion {
@@ -162,7 +107,7 @@ pub extern "C" fn qrh_trace(
         ≡ traceTables (given (now (weights .entry)) (now (discounts .entry)) params segments) (now (draws .entry))
         (tables (now (spots .entry)) (now (variances .entry)) (now (zs .entry)) (now (factors .entry))) ⌝ }
 {
-    trace_answer(tracing::trace(
+    trace_answer(calls::tracing::trace(
         weights,
         discounts,
         params,
@@ -249,7 +194,7 @@ pub extern "C" fn qrh_vanilla(
     ensures table { λ r. ⌜ now (seen .exit) ≡ vanillaTable (vanillaInputs (given (now (weights .entry)) (now (discounts .entry)) params segments) put strike false paths (now (draws .entry))) (now (seen .entry)) ⌝ }
     ensures claim { λ r. ⌜ VanillaClaim (vanillaInputs (given (now (weights .entry)) (now (discounts .entry)) params segments) put strike false paths (now (draws .entry))) (now (seen .entry)) (now (seen .exit)) (r .number) (r .place) (r .steps) ⌝ }
 {
-    vanilla_answer(vanilla::price_vanilla(
+    vanilla_answer(calls::vanilla::price_vanilla(
         weights,
         discounts,
         params,
@@ -280,7 +225,7 @@ pub extern "C" fn qrh_mirrored(
     ensures table { λ r. ⌜ now (seen .exit) ≡ vanillaTable (vanillaInputs (given (now (weights .entry)) (now (discounts .entry)) params segments) put strike true paths (now (draws .entry))) (now (seen .entry)) ⌝ }
     ensures claim { λ r. ⌜ VanillaClaim (vanillaInputs (given (now (weights .entry)) (now (discounts .entry)) params segments) put strike true paths (now (draws .entry))) (now (seen .entry)) (now (seen .exit)) (r .number) (r .place) (r .steps) ⌝ }
 {
-    vanilla_answer(vanilla::price_vanilla(
+    vanilla_answer(calls::vanilla::price_vanilla(
         weights,
         discounts,
         params,
@@ -387,7 +332,7 @@ pub extern "C" fn qrh_vix(
         (firstNo (throughWorkspace (vixInputs (now (weights .entry)) (now (discounts .entry)) params window given) (length (now (workspace .entry)))))
         (now (workspace .entry)) (now (workspace .exit)) ⌝ }
 {
-    vix_answer(evaluating::evaluate(weights, discounts, params, window, given, workspace))
+    vix_answer(calls::evaluating::evaluate(weights, discounts, params, window, given, workspace))
 }
 
 // The values of a VIX batch, in the order in which they are reported. At a refusal they are zeros, but
@@ -463,7 +408,7 @@ pub extern "C" fn qrh_vix_batch(
     ensures claim { λ r. ⌜ VixBatchClaim (vixBatchInputs (given (now (weights .entry)) (now (discounts .entry)) params segments) window payoff paths (now (draws .entry))) (length (now (workspace .entry))) (now (seen .entry)) (now (seen .exit)) (r .number) (r .place) (r .steps) ⌝ }
     ensures workspace { λ r. ⌜ KeptUnlessPassed (firstNo (throughSixteen (vixBatchInputs (given (now (weights .entry)) (now (discounts .entry)) params segments) window payoff paths (now (draws .entry))) (length (now (workspace .entry))))) (now (workspace .entry)) (now (workspace .exit)) ⌝ }
 {
-    vix_batch_answer(vix_batch::price_vix(
+    vix_batch_answer(calls::vix_batch::price_vix(
         weights,
         discounts,
         params,

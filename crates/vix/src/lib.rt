@@ -1,6 +1,6 @@
 // The VIX squared of the model as a quadratic form in the factors: its coefficients, and its value.
 ghost use mathlib.Core.Path.{_≡_};
-ghost use Prim.Native.Nat.{ℕ, _+_, _*_, _-_, _≤_, _<_};
+ghost use Prim.Native.Nat.{_+_, _*_, _-_, _≤_, _<_};
 ghost use lib.ListN.{length, take};
 ghost use Rattle.vix.specs.Form.{pairsBefore, linearValue, rowValue, rawSquared, vixInUse};
 ghost use Rattle.vix.specs.Generator.{dimension};

@@ -8,7 +8,6 @@ use borrow.Author.Needs.{needs}
 use borrow.Author.Tests.{not-true, not-false}
 use mathlib.Core.List.{_++_}
 use Rattle.matrix.proofs.Cells.{small}
-use Rattle.matrix.specs.declared.Exponentiated.{Exponentiated}
 use Rattle.matrix.specs.Workspace.{matrixAt, exponentiated}
 use Rattle.matrix.specs.Call.{shapeRight}
 use Rattle.matrix.proofs.Workspaces.{long-front, long-put, first-put}

@@ -4,7 +4,8 @@ use lib.Ieee.{Float}
 use borrow.Author.Needs.{needs}
 use Rattle.decimal.proofs.Value.{zero-bits}
 use Rattle.terminal.specs.declared.Conversion.{Conversion}
-use Rattle.terminal.specs.Answers.{noPlace, conversion}
+use Rattle.refusal.specs.Refusal.{noPlace}
+use Rattle.terminal.specs.Answers.{conversion}
 use Rattle.terminal.proofs.qrh_convert.Statement.{statement}
 use Rattle.terminal.proofs.qrh_convert.Tie as tie
 

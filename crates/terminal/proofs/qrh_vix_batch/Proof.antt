@@ -2,8 +2,8 @@
 use mathlib.Core.Path.{ap, _∙_}
 use borrow.Author.Needs.{needs}
 use Rattle.terminal.specs.Answers.{vixBatchAnswer}
-use Rattle.terminal.specs.VixBatch.{VixBatchClaim}
-use Rattle.terminal.proofs.Claims.{vix-told}
+use Rattle.calls.specs.VixBatch.{VixBatchClaim}
+use Rattle.terminal.proofs.Edge.{vix-told}
 use Rattle.terminal.proofs.qrh_vix_batch.Statement.{statement}
 use Rattle.terminal.proofs.qrh_vix_batch.Tie as tie
 

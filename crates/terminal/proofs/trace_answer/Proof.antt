@@ -2,7 +2,7 @@
 use mathlib.Core.Path.{sym, ap, _∙_}
 use borrow.Author.Needs.{needs}
 use Rattle.terminal.specs.Answers.{traced}
-use Rattle.terminal.proofs.TraceCall.{refusal-traced}
+use Rattle.terminal.proofs.Edge.{refusal-traced}
 use Rattle.terminal.proofs.trace_answer.Statement.{statement}
 use Rattle.terminal.proofs.trace_answer.Tie as tie
 

@@ -2,7 +2,7 @@
 use mathlib.Core.Path.{sym, ap, _∙_}
 use borrow.Author.Needs.{needs}
 use Rattle.terminal.specs.Answers.{evaluatedAnswer}
-use Rattle.terminal.proofs.VixCall.{refusal-evaluated}
+use Rattle.terminal.proofs.Edge.{refusal-evaluated}
 use Rattle.terminal.proofs.vix_answer.Statement.{statement}
 use Rattle.terminal.proofs.vix_answer.Tie as tie
 

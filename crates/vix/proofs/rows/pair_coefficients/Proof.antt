@@ -8,12 +8,11 @@ use lib.ListN.{length, length-set}
 use lib.Ieee.{ofBits}
 use Rattle.model.specs.Step.{kernelInUse}
 use Rattle.vix.specs.Appended.{Appended}
-use Rattle.vix.specs.Generator.{pairsOfRow, pairCoefficient}
+use Rattle.vix.specs.Generator.{pairsOfRow, pairCoefficient, two}
 use Rattle.vix.proofs.Appending.{appended-none, single-store}
 use Rattle.vix.proofs.Additions.{once, twice, pair-coefficient}
 use Rattle.vix.proofs.Places.{integral-most, row-inside}
 use Rattle.numeric.specs.Double.{one}
-use Rattle.vix.specs.Generator.{two}
 use mathlib.Core.Bool.{cond}
 use mathlib.Core.Logic.{⊎-elim}
 use lib.Dec.{eqb}

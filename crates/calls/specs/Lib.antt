@@ -1,0 +1,5 @@
+pub mod Trace
+pub mod VixCall
+pub mod Batches
+pub mod Vanilla
+pub mod VixBatch

@@ -1,0 +1,135 @@
+-- What passes the doors is admitted: Decimals that are converted, weights in range, and a start that is read off them. Assumes nothing.
+use mathlib.Core.Path.{_≡_, refl, sym, ap, _∙_, subst}
+use mathlib.Core.Bool.{true, false}
+use mathlib.Core.List.{List}
+use Prim.Native.Nat.{ℕ, _*_, _^_, _≤_, _<_}
+use native.Mathlib.Nat.{le-trans, le-of-eq, mul-one, one-mul}
+use borrow.Author.Tests.{not-true}
+use lib.IntN.{ℤ, pos}
+use lib.ListN.{getD}
+use lib.Seq.{getD-take}
+use lib.Ieee.{Float, nan, fin, le, up, down}
+use lib.Ieee.Bits.{is-true}
+use Rattle.numeric.specs.Double.{magnitude}
+use Rattle.numeric.proofs.Order.{ordered→le}
+use Rattle.numeric.proofs.Tables.{getD-tabulate}
+use Rattle.decimal.specs.declared.Decimal.{Decimal}
+use Rattle.decimal.specs.Decimal.{coefficient, isNegative, value}
+use Rattle.decimal.proofs.Value.{converts, value-fits}
+use Rattle.refusal.specs.declared.Outcome.the-variants.{Passed}
+use Rattle.refusal.specs.Questions.{firstNo}
+use Rattle.refusal.proofs.Laws.{passed-first, passed-head}
+use Rattle.model.specs.declared.Kernel.{Kernel}
+use Rattle.model.specs.declared.Params.{Params}
+use Rattle.doors.specs.declared.ParamsDoor.{ParamsDoor}
+use Rattle.doors.specs.declared.ModelDoor.{ModelDoor}
+use Rattle.model.specs.declared.RawParams.{RawParams}
+use Rattle.model.specs.declared.State.{State}
+use Rattle.model.specs.Kernel.{kernelOf}
+use Rattle.model.specs.Parameters.{zeroDecimal, rawParams, rawFactors, startOf}
+use Rattle.doors.specs.Questions.{rangeQuestions, scaleQuestions, paramsQuestions}
+use Rattle.model.specs.Step.{read, kernelInUse, stateInUse}
+use Rattle.model.specs.Admitted.{Converted, ParamsReady, Admitted}
+use Rattle.doors.specs.Doors.{KernelReady, ParamsPrepared, ModelReady}
+use Rattle.doors.specs.Model.{Model}
+
+-- ---- one Decimal
+at-most : (m : ℕ) (e : ℤ) → m * up e ≤ 2 ^ 96 * down e → le (fin false m e) (fin false 1 (pos 96)) ≡ true
+at-most m e h =
+    ordered→le (fin false m e) (fin false 1 (pos 96)) refl refl
+    (le-trans (le-of-eq (mul-one (m * up e))) (le-trans h (le-of-eq (ap (λ (x : ℕ). x * down e) (sym (one-mul (2 ^ 96)))))))
+
+module _ (d : Decimal) (W : coefficient d < 2 ^ 96) where
+  pub value-converted : Converted (value d)
+  value-converted =
+      let c = converts d W in
+      record {
+        double = is-true _ (value-fits d);
+        small = ap (λ (x : Float). le (magnitude x) (fin false 1 (pos 96))) (c .is) ∙ at-most (c .m) (c .e) (c .most);
+      }
+
+  pub value-not-negative : isNegative d ≡ false → magnitude (value d) ≡ value d
+  value-not-negative h =
+      let c = converts d W in
+      let unsigned : value d ≡ fin false (c .m) (c .e) = c .is ∙ rw h in
+      ap magnitude unsigned ∙ sym unsigned
+
+-- ---- the parameters
+-- Every value of the struct is a Decimal: its coefficient has 96 bits.
+pub record Coefficients (p : Params) : Type 0 where
+  pub a : coefficient (p .a) < 2 ^ 96
+  pub b : coefficient (p .b) < 2 ^ 96
+  pub c : coefficient (p .c) < 2 ^ 96
+  pub lambda : coefficient (p .lambda) < 2 ^ 96
+  pub eta : coefficient (p .eta) < 2 ^ 96
+  pub spot : coefficient (p .spot) < 2 ^ 96
+  pub factor : (i : ℕ) → i < 10 → coefficient (getD (p .factors) i zeroDecimal) < 2 ^ 96
+
+module _ (n : ℕ) (p : Params) where
+  a-passed : firstNo (paramsQuestions n p) ≡ Passed → isNegative (p .a) ≡ false
+  unfolding paramsQuestions rangeQuestions
+  a-passed h = not-true (isNegative (p .a)) (passed-head _ _ (passed-first (rangeQuestions n p) (scaleQuestions n p) h))
+
+  module _ (few : n ≤ 10) (held : Coefficients p) where
+    factor-converted : (i : ℕ) → i < n → Converted (getD (rawFactors n (p .factors)) i nan)
+    unfolding rawFactors
+    factor-converted i h =
+        rw (getD-tabulate n i (λ j. value (getD (p .factors) j zeroDecimal)) nan h) (value-converted (getD (p .factors) i zeroDecimal) (held .factor i (le-trans h few)))
+
+pub params-ready : (k : Kernel) (p : Params) → k .n ≤ 10 → Coefficients p → firstNo (paramsQuestions (k .n) p) ≡ Passed → ParamsReady (k .n) (rawParams p) (startOf (kernelInUse k) p)
+unfolding startOf read
+params-ready k p few held passed =
+    record {
+      a-not-negative = value-not-negative (p .a) (held .a) (a-passed (k .n) p passed);
+      a = value-converted (p .a) (held .a);
+      b = value-converted (p .b) (held .b);
+      c = value-converted (p .c) (held .c);
+      lambda = value-converted (p .lambda) (held .lambda);
+      eta = value-converted (p .eta) (held .eta);
+      spot = value-converted (p .spot) (held .spot);
+      factor = factor-converted (k .n) p few held;
+    }
+
+-- what the door ensures
+pub params-prepared : (k : Kernel) (p : Params) (r : ParamsDoor) → k .n ≤ 10 → Coefficients p → r .outcome ≡ firstNo (paramsQuestions (k .n) p) → r .raw ≡ rawParams p → stateInUse (k .n) (r .start) ≡ startOf (kernelInUse k) p → ParamsPrepared k p r
+params-prepared k p r few held asked raw start =
+    record {
+      outcome = asked;
+      raw = raw;
+      start = start;
+      ready = λ passed.
+          subst (λ (x : RawParams). ParamsReady (k .n) x (stateInUse (k .n) (r .start))) (sym raw)
+          (subst (ParamsReady (k .n) (rawParams p)) (sym start) (params-ready k p few held (sym asked ∙ passed)));
+    }
+
+-- ---- the model
+-- a start is read off its own factors
+starts-read : (k : Kernel) (p : Params) (raw : RawParams) (s : State) → raw ≡ rawParams p → s ≡ startOf k p → s ≡ read k raw (s .spot) (s .factors)
+unfolding startOf read
+starts-read k p raw s r e =
+    subst (λ (x : RawParams). s ≡ read k x (s .spot) (s .factors)) (sym r)
+    (subst (λ (x : State). x ≡ read k (rawParams p) (x .spot) (x .factors)) (sym e) refl)
+
+-- what is admitted stays so under another description of it
+same-admitted : {k k′ : Kernel} {p p′ : RawParams} {s s′ : State} → k ≡ k′ → p ≡ p′ → s ≡ s′ → Admitted k p s → Admitted k′ p′ s′
+same-admitted a b c h = rw (a, b, c) at h
+
+module _ (weights discounts : List Float) (k : Kernel) (p : Params) (r : ParamsDoor) (tables : KernelReady weights discounts k) (initial : ParamsPrepared k p r) (passed : r .outcome ≡ Passed) where
+  -- of the tables and the start as the doors prepare them
+  pub admitted : Admitted (kernelInUse k) (r .raw) (stateInUse (k .n) (r .start))
+  admitted =
+      record {
+        few = tables .few;
+        weight = λ i h. rw (getD-take (k .n) (k .weights) i nan h) (tables .weight i h);
+        params = initial .ready passed;
+        start-read = starts-read (kernelInUse k) p (r .raw) (stateInUse (k .n) (r .start)) (initial .raw) (initial .start);
+      }
+
+  -- and so of those given
+  pub admitted-given : Admitted (kernelOf weights discounts) (rawParams p) (startOf (kernelOf weights discounts) p)
+  admitted-given =
+      same-admitted (tables .in-use) (initial .raw) (initial .start ∙ ap (λ (x : Kernel). startOf x p) (tables .in-use)) admitted
+
+-- the same of what every simulating call prepares
+pub model-admitted : (m : Model) (r : ModelDoor) → ModelReady m r → Admitted (kernelOf (m .weights) (m .discounts)) (rawParams (m .params)) (startOf (kernelOf (m .weights) (m .discounts)) (m .params))
+model-admitted m r ready = same-admitted (ready .kernel .in-use) (ready .raw) (ready .start) (ready .admitted)

@@ -1,0 +1,33 @@
+-- `doors::params::raw_params` meets its contract. Assumes nothing.
+use borrow.Author.Needs.{needs}
+use Rattle.doors.proofs.params.raw_params.Statement.{statement}
+use Rattle.doors.proofs.params.raw_params.Tie as tie
+
+double-of-requires : tie.Need-double-of-requires
+double-of-requires c κs = search needs
+
+double-of-requires-2 : tie.Need-double-of-requires-2
+double-of-requires-2 c κs = search needs
+
+double-of-requires-3 : tie.Need-double-of-requires-3
+double-of-requires-3 c κs = search needs
+
+double-of-requires-4 : tie.Need-double-of-requires-4
+double-of-requires-4 c κs = search needs
+
+double-of-requires-5 : tie.Need-double-of-requires-5
+double-of-requires-5 c κs = search needs
+
+returns : tie.Need-returns
+returns c = cc
+
+pub raw-params-spec : {M : Type 1} → statement M
+raw-params-spec =
+    tie.close
+    (tie.spec
+    double-of-requires
+    double-of-requires-2
+    double-of-requires-3
+    double-of-requires-4
+    double-of-requires-5
+    returns)

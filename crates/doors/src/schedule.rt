@@ -1,0 +1,97 @@
+// The door of the schedule: questions 11 and 12, then 13, 14 and 1 segment by segment.
+ghost use mathlib.Core.Path.{_≡_};
+ghost use Rattle.refusal.specs.Questions.{firstNo};
+ghost use Rattle.doors.specs.Questions.{questionsOf};
+ghost use Rattle.doors.specs.Doors.{SchedulePrepared};
+use crate::ScheduleDoor;
+use model::Schedule;
+use model::Segment;
+use model::Segments;
+use refusal::Outcome;
+use refusal::Refusal;
+
+// Questions 13, 14 and 1 of one segment, counted from 1, with the running total that includes it.
+fn segment_questions(s: Segment, segment: u64, total: usize) -> Outcome
+    ensures { λ r. ⌜ r ≡ firstNo (questionsOf s segment total) ⌝ }
+{
+    let runs = decimal::is_positive(s.dt) && 0 < s.steps;
+    let asked = refusal::ask(
+        Outcome::Passed,
+        Refusal::AtSegment {
+            number: 13,
+            segment: segment,
+        },
+        runs,
+    );
+    let asked = refusal::ask(
+        asked,
+        Refusal::AtSegment {
+            number: 14,
+            segment: segment,
+        },
+        total <= 4096,
+    );
+    refusal::ask(asked, Refusal::Plain(1), decimal::scale_fits(s.dt))
+}
+
+fn refused(refusal: Refusal) -> ScheduleDoor
+    ensures { λ r. ⌜ r .outcome ≡ Outcome.Refused refusal ⌝ }
+{
+    let nothing = [0.0; 64];
+    let never = [0usize; 64];
+    ScheduleDoor {
+        outcome: Outcome::Refused(refusal),
+        schedule: Schedule {
+            count: 0,
+            total: 0,
+            dt: nothing,
+            sqrt_dt: nothing,
+            last: never,
+        },
+    }
+}
+
+// The segments as converted and laid end to end. The running total is 4,096 at most before a step
+// count is added, so it never wraps.
+pub fn from_segments(g: Segments) -> ScheduleDoor
+    ensures { λ r. ⌜ SchedulePrepared g r ⌝ }
+{
+    let count = g.count;
+    if count == 0 {
+        return refused(Refusal::Plain(11));
+    }
+    if 64 < count {
+        return refused(Refusal::Plain(12));
+    }
+    let segments = g.segments;
+    let mut dt = [0.0; 64];
+    let mut sqrt_dt = [0.0; 64];
+    let mut last = [0usize; 64];
+    let mut total: usize = 0;
+    let mut i: usize = 0;
+    while i < count {
+        let s = segments[i];
+        total += s.steps as usize;
+        match segment_questions(s, (i as u64) + 1, total) {
+            Outcome::Refused(refusal) => {
+                return refused(refusal);
+            }
+            Outcome::Passed => {}
+        }
+        let converted = decimal::double_of(s.dt);
+        dt[i] = converted;
+        sqrt_dt[i] = numeric::sqrt(converted);
+        last[i] = total;
+        i += 1;
+    }
+    ScheduleDoor {
+        outcome: Outcome::Passed,
+        schedule: Schedule {
+            count: count,
+            total: total,
+            dt: dt,
+            sqrt_dt: sqrt_dt,
+            last: last,
+        },
+    }
+}
