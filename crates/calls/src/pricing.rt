@@ -117,7 +117,9 @@ pub fn run_batch(
     requires { ⌜ Admitted (kernelInUse kernel) raw (stateInUse (kernel .n) start) ⌝ }
     ensures answer { λ r. ⌜ r ≡ pricedRun observed (batchOf kernel raw start schedule observed form mirrored paths (now (draws .entry))) payoff ⌝ }
     ensures table { λ r. ⌜ now (seen .exit) ≡ tableAfter (batchOf kernel raw start schedule observed form mirrored paths (now (draws .entry))) (now (seen .entry)) ⌝ }
-    ensures claim { λ r. ⌜ Claimed (batchOf kernel raw start schedule observed form mirrored paths (now (draws .entry))) (now (seen .entry)) (now (seen .exit)) (numberIn r) (placeIn r) (stepsIn r) ⌝ }
+    ensures claim { λ r. ⌜ Claimed
+        (batchOf kernel raw start schedule observed form mirrored paths (now (draws .entry)))
+        (now (seen .entry)) (now (seen .exit)) (numberIn r) (placeIn r) (stepsIn r) ⌝ }
 {
     let ran = paths::run_paths(
         kernel,

@@ -25,9 +25,15 @@ pub fn price_vanilla(
     draws: &[f64],
     seen: &mut [f64],
 ) -> Priced
-    ensures answer { λ r. ⌜ r ≡ vanillaCall (vanillaInputs (given (now (weights .entry)) (now (discounts .entry)) params segments) put strike mirrored paths (now (draws .entry))) (now (seen .entry)) ⌝ }
-    ensures table { λ r. ⌜ now (seen .exit) ≡ vanillaTable (vanillaInputs (given (now (weights .entry)) (now (discounts .entry)) params segments) put strike mirrored paths (now (draws .entry))) (now (seen .entry)) ⌝ }
-    ensures claim { λ r. ⌜ VanillaClaim (vanillaInputs (given (now (weights .entry)) (now (discounts .entry)) params segments) put strike mirrored paths (now (draws .entry))) (now (seen .entry)) (now (seen .exit)) (numberIn r) (placeIn r) (stepsIn r) ⌝ }
+    ensures answer { λ r. ⌜ r ≡ vanillaCall
+        (vanillaInputs (given (now (weights .entry)) (now (discounts .entry)) params segments) put strike mirrored paths (now (draws .entry)))
+        (now (seen .entry)) ⌝ }
+    ensures table { λ r. ⌜ now (seen .exit) ≡ vanillaTable
+        (vanillaInputs (given (now (weights .entry)) (now (discounts .entry)) params segments) put strike mirrored paths (now (draws .entry)))
+        (now (seen .entry)) ⌝ }
+    ensures claim { λ r. ⌜ VanillaClaim
+        (vanillaInputs (given (now (weights .entry)) (now (discounts .entry)) params segments) put strike mirrored paths (now (draws .entry)))
+        (now (seen .entry)) (now (seen .exit)) (numberIn r) (placeIn r) (stepsIn r) ⌝ }
 {
     let prepared = doors::prepare(weights, discounts, params, segments);
     let first = prepared.outcome;

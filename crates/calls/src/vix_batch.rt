@@ -48,10 +48,18 @@ pub fn price_vix(
     workspace: &mut [f64],
     seen: &mut [f64],
 ) -> Priced
-    ensures answer { λ r. ⌜ r ≡ vixBatchCall (vixBatchInputs (given (now (weights .entry)) (now (discounts .entry)) params segments) window payoff paths (now (draws .entry))) (length (now (workspace .entry))) (now (seen .entry)) ⌝ }
-    ensures table { λ r. ⌜ now (seen .exit) ≡ vixBatchTable (vixBatchInputs (given (now (weights .entry)) (now (discounts .entry)) params segments) window payoff paths (now (draws .entry))) (length (now (workspace .entry))) (now (seen .entry)) ⌝ }
-    ensures claim { λ r. ⌜ VixBatchClaim (vixBatchInputs (given (now (weights .entry)) (now (discounts .entry)) params segments) window payoff paths (now (draws .entry))) (length (now (workspace .entry))) (now (seen .entry)) (now (seen .exit)) (numberIn r) (placeIn r) (stepsIn r) ⌝ }
-    ensures workspace { λ r. ⌜ KeptUnlessPassed (firstNo (throughSixteen (vixBatchInputs (given (now (weights .entry)) (now (discounts .entry)) params segments) window payoff paths (now (draws .entry))) (length (now (workspace .entry))))) (now (workspace .entry)) (now (workspace .exit)) ⌝ }
+    ensures answer { λ r. ⌜ r ≡ vixBatchCall
+        (vixBatchInputs (given (now (weights .entry)) (now (discounts .entry)) params segments) window payoff paths (now (draws .entry)))
+        (length (now (workspace .entry))) (now (seen .entry)) ⌝ }
+    ensures table { λ r. ⌜ now (seen .exit) ≡ vixBatchTable
+        (vixBatchInputs (given (now (weights .entry)) (now (discounts .entry)) params segments) window payoff paths (now (draws .entry)))
+        (length (now (workspace .entry))) (now (seen .entry)) ⌝ }
+    ensures claim { λ r. ⌜ VixBatchClaim
+        (vixBatchInputs (given (now (weights .entry)) (now (discounts .entry)) params segments) window payoff paths (now (draws .entry)))
+        (length (now (workspace .entry))) (now (seen .entry)) (now (seen .exit)) (numberIn r) (placeIn r) (stepsIn r) ⌝ }
+    ensures workspace { λ r. ⌜ KeptUnlessPassed (firstNo (throughSixteen
+        (vixBatchInputs (given (now (weights .entry)) (now (discounts .entry)) params segments) window payoff paths (now (draws .entry)))
+        (length (now (workspace .entry))))) (now (workspace .entry)) (now (workspace .exit)) ⌝ }
 {
     let prepared = doors::prepare(weights, discounts, params, segments);
     let first = prepared.outcome;

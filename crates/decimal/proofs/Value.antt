@@ -12,7 +12,8 @@ use lib.Ieee.Positive.{num, den, positive, between}
 use borrow.Author.Tests.{leb-true, le-leb, lt-leb}
 use Rattle.decimal.specs.declared.Decimal.{Decimal}
 use Rattle.decimal.specs.declared.Converted.the-variants.{Value, ScaleTooLarge}
-use Rattle.decimal.specs.Decimal.{coefficient, isZero, isNegative, isPositive, scaleFits, nearestDouble, plusZero, value, convert}
+use Rattle.decimal.specs.Decimal.{coefficient, isZero, isNegative, isPositive, scaleFits, nearestDouble, value, convert}
+use Rattle.numeric.specs.Double.{plusZero}
 use Rattle.decimal.proofs.Zero.{nonzero, negative-is, positive-nonzero, positive-not-negative}
 use Rattle.decimal.proofs.Bounds.{within, at-least, at-most, at-lowest, not-below}
 

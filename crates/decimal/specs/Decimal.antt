@@ -5,7 +5,8 @@ use Prim.Native.Nat.{ℕ, _+_, _*_, _^_}
 use lib.Dec.{eqb, leb}
 use lib.IntN.{ℤ, pos, negℤ}
 use lib.Signed.{ltZ}
-use lib.Ieee.{Float, fin, binary64, round}
+use lib.Ieee.{Float, binary64, round}
+use Rattle.numeric.specs.Double.{plusZero}
 use Rattle.decimal.specs.declared.Decimal.{Decimal}
 use Rattle.decimal.specs.declared.Converted.{Converted}
 use Rattle.decimal.specs.declared.Converted.the-variants.{Value, ScaleTooLarge}
@@ -37,9 +38,6 @@ scaleFits d = isZero d || leb (d .scale) 28
 -- "The answer is the nearest double, ties to an even significand"
 abbrev pub nearestDouble : Decimal → Float
 nearestDouble d = round binary64 (d .negative) (coefficient d) (10 ^ d .scale)
-
-abbrev pub plusZero : Float
-plusZero = fin false 0 (pos 0)
 
 -- "Coefficient 0 gives +0.0, whatever its sign and scale". A Decimal that question 1 turns away has no double: +0.0 stands for it here, and no call answers it.
 unfoldable pub value : Decimal → Float

@@ -8,7 +8,8 @@ use lib.Ieee.{fin, binary64, ofBits, round}
 use Rattle.decimal.specs.declared.Decimal.{Decimal}
 use Rattle.decimal.specs.declared.Converted.{Converted}
 use Rattle.decimal.specs.declared.Converted.the-variants.{Value, ScaleTooLarge}
-use Rattle.decimal.specs.Decimal.{convert, plusZero}
+use Rattle.decimal.specs.Decimal.{convert}
+use Rattle.numeric.specs.Double.{plusZero}
 
 -- a sign, a coefficient and a scale
 abbrev pub decimal : Bool → ℕ → ℕ → Decimal

@@ -9,7 +9,8 @@ use lib.ListN.{getD, replicate}
 use lib.Ieee.{Float, nan, inf, fin, binary64, ofBits, round}
 use Rattle.numeric.specs.Root.{root}
 use Rattle.decimal.specs.declared.Decimal.{Decimal}
-use Rattle.decimal.specs.Decimal.{value, convert, plusZero, isNegative, isPositive, scaleFits}
+use Rattle.decimal.specs.Decimal.{value, convert, isNegative, isPositive, scaleFits}
+use Rattle.numeric.specs.Double.{plusZero}
 use Rattle.decimal.specs.Figures as decimals
 use Rattle.refusal.specs.Questions.{firstNo, each}
 use Rattle.model.specs.declared.Params.{Params}

@@ -55,7 +55,7 @@ fn one_path() -> bool {
     call_at_100(1, &[0.5], &mut observations).number == 19
 }
 
-pub fn figures(wrong: u64) -> u64 {
+pub(crate) fn figures(wrong: u64) -> u64 {
     let mut wrong = wrong;
     wrong = tell(
         b"P9: both as two paths, call at 100: price 25, error 25, spot mean 75, error 75, one non-positive, 2 steps",

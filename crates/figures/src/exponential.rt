@@ -38,7 +38,7 @@ fn number_of(dimension: usize, input: &[f64], output: &mut [f64]) -> u32 {
     terminal::qrh_exponential(dimension, input, output, &mut workspace).number
 }
 
-pub fn figures(wrong: u64) -> u64 {
+pub(crate) fn figures(wrong: u64) -> u64 {
     let mut wrong = wrong;
     wrong = tell(
         b"P11: [0 1; 0 0]: one squaring, [1 1; 0 1]",

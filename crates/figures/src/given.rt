@@ -6,7 +6,7 @@ use model::Segment;
 use model::Segments;
 
 // digits / 10^scale.
-pub fn scaled(digits: u64, scale: u8) -> Decimal {
+pub(crate) fn scaled(digits: u64, scale: u8) -> Decimal {
     Decimal {
         low: digits,
         high: 0,
@@ -15,16 +15,16 @@ pub fn scaled(digits: u64, scale: u8) -> Decimal {
     }
 }
 
-pub fn whole(number: u64) -> Decimal {
+pub(crate) fn whole(number: u64) -> Decimal {
     scaled(number, 0)
 }
 
-pub fn quarter() -> Decimal {
+pub(crate) fn quarter() -> Decimal {
     scaled(25, 2)
 }
 
 // The parameters with these a, number of factors and value of each.
-pub fn params(a: u64, factor_count: usize, factor: u64) -> Params {
+pub(crate) fn params(a: u64, factor_count: usize, factor: u64) -> Params {
     Params {
         a: whole(a),
         b: whole(0),
@@ -38,7 +38,7 @@ pub fn params(a: u64, factor_count: usize, factor: u64) -> Params {
 }
 
 // One segment of dt 0.25.
-pub fn segment(steps: u32) -> Segments {
+pub(crate) fn segment(steps: u32) -> Segments {
     let only = Segment {
         dt: quarter(),
         steps: steps,
@@ -50,7 +50,7 @@ pub fn segment(steps: u32) -> Segments {
 }
 
 // The segments (0.25, 2), (0.5, 3).
-pub fn two_segments() -> Segments {
+pub(crate) fn two_segments() -> Segments {
     let mut segments = [Segment {
         dt: quarter(),
         steps: 2,

@@ -33,7 +33,7 @@ fn wide() -> Decimal {
     }
 }
 
-pub fn figures(wrong: u64) -> u64 {
+pub(crate) fn figures(wrong: u64) -> u64 {
     let mut wrong = wrong;
     wrong = tell(
         b"P1: 1 at scale 1 has the bits 3FB999999999999A",

@@ -172,7 +172,7 @@ fn ranges(wrong: u64) -> u64 {
     )
 }
 
-pub fn figures(wrong: u64) -> u64 {
+pub(crate) fn figures(wrong: u64) -> u64 {
     let mut wrong = wrong;
     wrong = tell(
         b"P7: draw 0.5: spot 150, factor and z 0.25, variance 4.0625",

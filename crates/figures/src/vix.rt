@@ -23,7 +23,7 @@ fn flat() -> bool {
     (answer.number == 0) & same(answer.squared, 40000.0) & same(answer.index, 200.0)
 }
 
-pub fn figures(wrong: u64) -> u64 {
+pub(crate) fn figures(wrong: u64) -> u64 {
     tell(
         b"P12: a = 0, window 0.25: VIX squared 40000, index 200",
         flat(),

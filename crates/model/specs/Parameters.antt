@@ -13,6 +13,7 @@ use Rattle.model.specs.declared.RawParams.{RawParams}
 use Rattle.model.specs.declared.State.{State}
 use Rattle.model.specs.Step.{read}
 
+-- what stands for a Decimal past the end of a list, so that definitions are total
 abbrev pub zeroDecimal : Decimal
 zeroDecimal = record { low = 0; high = 0; scale = 0; negative = false }
 

@@ -23,7 +23,7 @@ pub struct Tally {
 }
 
 // The number of cases that the file is to have.
-pub fn count(file: &[u8]) -> u64 {
+pub(crate) fn count(file: &[u8]) -> u64 {
     word(file, 1)
 }
 
@@ -36,7 +36,7 @@ fn after_case(file: &[u8], at: usize) -> usize {
 }
 
 // Whether the file is made of its mark, the count and that many cases.
-pub fn is_whole(file: &[u8]) -> bool {
+pub(crate) fn is_whole(file: &[u8]) -> bool {
     let cases = count(file);
     if word(file, 0) != MARK || cases > END as u64 {
         return false;
@@ -92,7 +92,7 @@ fn counted(tally: Tally, file: &[u8], call: u64, at: usize, case: u64) -> Tally 
 }
 
 // Runs the cases of one call.
-pub fn tally_of(file: &[u8], call: u64) -> Tally {
+pub(crate) fn tally_of(file: &[u8], call: u64) -> Tally {
     let cases = count(file);
     let mut tally = Tally {
         cases: 0,

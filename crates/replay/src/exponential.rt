@@ -19,7 +19,7 @@ fn same_answer(file: &[u8], at: usize, answer: ExponentialAnswer) -> bool {
         & same_counts(file, after_head(at), &[answer.squarings])
 }
 
-pub fn replay(file: &[u8], at: usize, end: usize) -> bool {
+pub(crate) fn replay(file: &[u8], at: usize, end: usize) -> bool {
     let input_at = after(at, 1);
     let lengths_at = after_list(file, input_at);
     let outcome_at = after(lengths_at, 2);

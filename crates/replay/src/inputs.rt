@@ -11,7 +11,7 @@ use model::Segments;
 // The words of the parameters of a model: six Decimals, a count, ten Decimals.
 const PARAMS: u64 = 33;
 
-pub fn decimal(file: &[u8], at: usize) -> Decimal {
+pub(crate) fn decimal(file: &[u8], at: usize) -> Decimal {
     let rest = word(file, after(at, 1));
     Decimal {
         low: word(file, at),
@@ -21,15 +21,15 @@ pub fn decimal(file: &[u8], at: usize) -> Decimal {
     }
 }
 
-pub fn size(file: &[u8], at: usize) -> usize {
+pub(crate) fn size(file: &[u8], at: usize) -> usize {
     word(file, at) as usize
 }
 
-pub fn flag(file: &[u8], at: usize) -> bool {
+pub(crate) fn flag(file: &[u8], at: usize) -> bool {
     word(file, at) == 1
 }
 
-pub fn factors(file: &[u8], at: usize) -> [Decimal; 10] {
+pub(crate) fn factors(file: &[u8], at: usize) -> [Decimal; 10] {
     let mut factors = [decimal(file, at); 10];
     let mut i: usize = 1;
     while i < 10 {
@@ -39,7 +39,7 @@ pub fn factors(file: &[u8], at: usize) -> [Decimal; 10] {
     factors
 }
 
-pub fn params(file: &[u8], at: usize) -> Params {
+pub(crate) fn params(file: &[u8], at: usize) -> Params {
     let factors = factors(file, after(at, 13));
     Params {
         a: decimal(file, at),
@@ -53,7 +53,7 @@ pub fn params(file: &[u8], at: usize) -> Params {
     }
 }
 
-pub fn after_params(at: usize) -> usize
+pub(crate) fn after_params(at: usize) -> usize
     ensures { λ r. ⌜ r ≡ min (at + 33) 65537 ⌝ }
 {
     after(at, PARAMS)
@@ -81,7 +81,7 @@ fn segment(file: &[u8], at: usize, i: usize) -> Segment
     }
 }
 
-pub fn segments(file: &[u8], at: usize) -> Segments {
+pub(crate) fn segments(file: &[u8], at: usize) -> Segments {
     let mut segments = [segment(file, at, 0); 64];
     let mut i: usize = 1;
     while i < 64 {
@@ -94,7 +94,7 @@ pub fn segments(file: &[u8], at: usize) -> Segments {
     }
 }
 
-pub fn after_segments(file: &[u8], at: usize) -> usize
+pub(crate) fn after_segments(file: &[u8], at: usize) -> usize
     ensures { λ r. ⌜ r ≤ 65537 ⌝ }
 {
     let written_at = after(at, 2);

@@ -8,7 +8,7 @@ use crate::vanilla;
 use crate::vix;
 use crate::words::after_list;
 
-pub fn replay(file: &[u8], call: u64, at: usize, end: usize) -> bool {
+pub(crate) fn replay(file: &[u8], call: u64, at: usize, end: usize) -> bool {
     let discounts_at = after_list(file, at);
     let params_at = after_list(file, discounts_at);
     let rest_at = after_params(params_at);

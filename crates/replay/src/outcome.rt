@@ -9,7 +9,7 @@ use crate::words::word;
 const HEAD: u64 = 5;
 
 // Whether the words from a place on are these numbers.
-pub fn same_counts(file: &[u8], at: usize, counts: &[u64]) -> bool {
+pub(crate) fn same_counts(file: &[u8], at: usize, counts: &[u64]) -> bool {
     let mut i: usize = 0;
     while i < counts.len() {
         if word(file, after(at, i as u64)) != counts[i] {
@@ -21,7 +21,7 @@ pub fn same_counts(file: &[u8], at: usize, counts: &[u64]) -> bool {
 }
 
 // Whether the words from a place on are the bits of these doubles.
-pub fn same_values(file: &[u8], at: usize, values: &[f64]) -> bool {
+pub(crate) fn same_values(file: &[u8], at: usize, values: &[f64]) -> bool {
     let mut i: usize = 0;
     while i < values.len() {
         if !same(values[i], word(file, after(at, i as u64))) {
@@ -33,11 +33,11 @@ pub fn same_values(file: &[u8], at: usize, values: &[f64]) -> bool {
 }
 
 // The number and the place, with which every outcome begins.
-pub fn same_head(file: &[u8], at: usize, number: u32, place: [u64; 4]) -> bool {
+pub(crate) fn same_head(file: &[u8], at: usize, number: u32, place: [u64; 4]) -> bool {
     (word(file, at) == number as u64) & same_counts(file, after(at, 1), &place)
 }
 
-pub fn after_head(at: usize) -> usize
+pub(crate) fn after_head(at: usize) -> usize
     ensures { λ r. ⌜ r ≡ min (at + 5) 65537 ⌝ }
 {
     after(at, HEAD)

@@ -7,7 +7,7 @@ use crate::words::after;
 use crate::words::double;
 use crate::words::word;
 
-pub fn convert(file: &[u8], at: usize, end: usize) -> bool {
+pub(crate) fn convert(file: &[u8], at: usize, end: usize) -> bool {
     let outcome_at = after(at, 2);
     let value_at = after_head(outcome_at);
     let answer = terminal::qrh_convert(decimal(file, at));
@@ -18,7 +18,7 @@ pub fn convert(file: &[u8], at: usize, end: usize) -> bool {
 }
 
 // A square root is not refused: its outcome has number 0.
-pub fn square_root(file: &[u8], at: usize, end: usize) -> bool {
+pub(crate) fn square_root(file: &[u8], at: usize, end: usize) -> bool {
     let outcome_at = after(at, 1);
     let root_at = after_head(outcome_at);
     let root = terminal::qrh_sqrt(double(word(file, at)));

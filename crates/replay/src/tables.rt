@@ -10,14 +10,14 @@ use crate::words::word;
 use std::num::wrapping_add_u64;
 
 // A table of zeros. Only its length is told: a caller's proof need not go through its entries.
-pub fn zeros() -> [f64; 1024]
+pub(crate) fn zeros() -> [f64; 1024]
     ensures { λ r. ⌜ 1024 ≡ length r ⌝ }
 {
     [0.0; 1024]
 }
 
 // A workspace of zeros.
-pub fn workspace() -> [f64; 22446]
+pub(crate) fn workspace() -> [f64; 22446]
     ensures { λ r. ⌜ 22446 ≡ length r ⌝ }
 {
     [0.0; 22446]
@@ -32,7 +32,7 @@ fn count(file: &[u8], at: usize, most: usize) -> usize
 }
 
 // Puts the doubles of a list at the beginning of `out`, and answers how many there are.
-pub fn list(file: &[u8], at: usize, out: &mut [f64]) -> usize
+pub(crate) fn list(file: &[u8], at: usize, out: &mut [f64]) -> usize
     ensures { λ r. ⌜ Part r (now (out .exit)) ⌝ }
 {
     let n = count(file, at, out.len());
@@ -53,7 +53,7 @@ fn lent(table: u64, i: usize) -> u64 {
 }
 
 // Fills a table as it is before the call, and answers how much of it is lent.
-pub fn lend(file: &[u8], at: usize, table: u64, out: &mut [f64]) -> usize
+pub(crate) fn lend(file: &[u8], at: usize, table: u64, out: &mut [f64]) -> usize
     ensures { λ r. ⌜ Part r (now (out .exit)) ⌝ }
 {
     let n = count(file, at, out.len());
@@ -83,12 +83,12 @@ fn same_doubles(file: &[u8], at: usize, written: usize, table: u64, doubles: &[f
 }
 
 // Whether a table begins as the list at a place of the file has it.
-pub fn same_table(file: &[u8], at: usize, table: u64, doubles: &[f64; 1024]) -> bool {
+pub(crate) fn same_table(file: &[u8], at: usize, table: u64, doubles: &[f64; 1024]) -> bool {
     same_doubles(file, after(at, 1), count(file, at, 1024), table, doubles)
 }
 
 // Whether the workspace is as before the call, where the file asks for that.
-pub fn same_workspace(file: &[u8], at: usize, table: u64, doubles: &[f64; 22446]) -> bool {
+pub(crate) fn same_workspace(file: &[u8], at: usize, table: u64, doubles: &[f64; 22446]) -> bool {
     if word(file, at) == 0 {
         return true;
     }

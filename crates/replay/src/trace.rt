@@ -76,7 +76,7 @@ fn traced(
         )
 }
 
-pub fn replay(
+pub(crate) fn replay(
     file: &[u8],
     at: usize,
     end: usize,

@@ -74,7 +74,7 @@ fn same_answer(file: &[u8], at: usize, answer: VanillaAnswer) -> bool {
         & same_counts(file, after(values_at, 4), &counts)
 }
 
-pub fn replay(
+pub(crate) fn replay(
     file: &[u8],
     at: usize,
     end: usize,

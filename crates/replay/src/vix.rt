@@ -40,7 +40,7 @@ fn same_evaluation(file: &[u8], at: usize, answer: VixAnswer) -> bool {
     same_head(file, at, answer.number, place) & same_values(file, after_head(at), &values)
 }
 
-pub fn evaluation(
+pub(crate) fn evaluation(
     file: &[u8],
     at: usize,
     end: usize,
@@ -129,7 +129,7 @@ fn priced(
         & (after(room_at, 1) == end)
 }
 
-pub fn batch(
+pub(crate) fn batch(
     file: &[u8],
     at: usize,
     end: usize,

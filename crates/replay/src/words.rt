@@ -34,7 +34,7 @@ fn half(file: &[u8], from: usize) -> u64
         + 0x100_0000 * byte(file, from + 3)
 }
 
-pub fn word(file: &[u8], at: usize) -> u64 {
+pub(crate) fn word(file: &[u8], at: usize) -> u64 {
     if at > END {
         return 0;
     }
@@ -42,7 +42,7 @@ pub fn word(file: &[u8], at: usize) -> u64 {
 }
 
 // The place so many words further on.
-pub fn after(at: usize, count: u64) -> usize
+pub(crate) fn after(at: usize, count: u64) -> usize
     ensures { λ r. ⌜ r ≡ min (at + count) 65537 ⌝ }
 {
     if at < END {
@@ -57,14 +57,14 @@ pub fn after(at: usize, count: u64) -> usize
 }
 
 // The place after a list.
-pub fn after_list(file: &[u8], at: usize) -> usize
+pub(crate) fn after_list(file: &[u8], at: usize) -> usize
     ensures { λ r. ⌜ r ≤ 65537 ⌝ }
 {
     after(after(at, 1), word(file, at))
 }
 
 // The double of a bit pattern.
-pub fn double(bits: u64) -> f64
+pub(crate) fn double(bits: u64) -> f64
     ensures { λ r. ⌜ r ≡ ofBits binary64 bits ⌝ }
 {
     if bits % 0x8000_0000_0000_0000 <= 0x7ff0_0000_0000_0000 {
@@ -74,7 +74,7 @@ pub fn double(bits: u64) -> f64
 }
 
 // Whether a double has these bits; any NaN is as any other.
-pub fn same(x: f64, bits: u64) -> bool
+pub(crate) fn same(x: f64, bits: u64) -> bool
     ensures { λ r. ⌜ (r ≡ true → x ≡ ofBits binary64 bits) ⌝ }
 {
     if x != x {

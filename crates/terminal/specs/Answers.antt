@@ -3,7 +3,7 @@
 use Prim.Native.Nat.{ℕ}
 use Rattle.decimal.specs.declared.Converted.{Converted}
 use Rattle.decimal.specs.declared.Converted.the-variants.{Value, ScaleTooLarge}
-use Rattle.decimal.specs.Decimal.{plusZero}
+use Rattle.numeric.specs.Double.{plusZero}
 use Rattle.refusal.specs.declared.Refusal.{Refusal}
 use Rattle.refusal.specs.declared.Refusal.the-variants.{Plain, InTable, AtSegment, NonFinite, OnPath, Estimate}
 use Rattle.refusal.specs.Refusal.{numberOf, placeOf, noPlace}

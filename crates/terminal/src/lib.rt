@@ -190,9 +190,15 @@ pub extern "C" fn qrh_vanilla(
     draws: &[f64],
     seen: &mut [f64],
 ) -> VanillaAnswer
-    ensures answer { λ r. ⌜ r ≡ vanillaAnswer (vanillaCall (vanillaInputs (given (now (weights .entry)) (now (discounts .entry)) params segments) put strike false paths (now (draws .entry))) (now (seen .entry))) ⌝ }
-    ensures table { λ r. ⌜ now (seen .exit) ≡ vanillaTable (vanillaInputs (given (now (weights .entry)) (now (discounts .entry)) params segments) put strike false paths (now (draws .entry))) (now (seen .entry)) ⌝ }
-    ensures claim { λ r. ⌜ VanillaClaim (vanillaInputs (given (now (weights .entry)) (now (discounts .entry)) params segments) put strike false paths (now (draws .entry))) (now (seen .entry)) (now (seen .exit)) (r .number) (r .place) (r .steps) ⌝ }
+    ensures answer { λ r. ⌜ r ≡ vanillaAnswer (vanillaCall
+        (vanillaInputs (given (now (weights .entry)) (now (discounts .entry)) params segments) put strike false paths (now (draws .entry)))
+        (now (seen .entry))) ⌝ }
+    ensures table { λ r. ⌜ now (seen .exit) ≡ vanillaTable
+        (vanillaInputs (given (now (weights .entry)) (now (discounts .entry)) params segments) put strike false paths (now (draws .entry)))
+        (now (seen .entry)) ⌝ }
+    ensures claim { λ r. ⌜ VanillaClaim
+        (vanillaInputs (given (now (weights .entry)) (now (discounts .entry)) params segments) put strike false paths (now (draws .entry)))
+        (now (seen .entry)) (now (seen .exit)) (r .number) (r .place) (r .steps) ⌝ }
 {
     vanilla_answer(calls::vanilla::price_vanilla(
         weights,
@@ -221,9 +227,15 @@ pub extern "C" fn qrh_mirrored(
     draws: &[f64],
     seen: &mut [f64],
 ) -> VanillaAnswer
-    ensures answer { λ r. ⌜ r ≡ vanillaAnswer (vanillaCall (vanillaInputs (given (now (weights .entry)) (now (discounts .entry)) params segments) put strike true paths (now (draws .entry))) (now (seen .entry))) ⌝ }
-    ensures table { λ r. ⌜ now (seen .exit) ≡ vanillaTable (vanillaInputs (given (now (weights .entry)) (now (discounts .entry)) params segments) put strike true paths (now (draws .entry))) (now (seen .entry)) ⌝ }
-    ensures claim { λ r. ⌜ VanillaClaim (vanillaInputs (given (now (weights .entry)) (now (discounts .entry)) params segments) put strike true paths (now (draws .entry))) (now (seen .entry)) (now (seen .exit)) (r .number) (r .place) (r .steps) ⌝ }
+    ensures answer { λ r. ⌜ r ≡ vanillaAnswer (vanillaCall
+        (vanillaInputs (given (now (weights .entry)) (now (discounts .entry)) params segments) put strike true paths (now (draws .entry)))
+        (now (seen .entry))) ⌝ }
+    ensures table { λ r. ⌜ now (seen .exit) ≡ vanillaTable
+        (vanillaInputs (given (now (weights .entry)) (now (discounts .entry)) params segments) put strike true paths (now (draws .entry)))
+        (now (seen .entry)) ⌝ }
+    ensures claim { λ r. ⌜ VanillaClaim
+        (vanillaInputs (given (now (weights .entry)) (now (discounts .entry)) params segments) put strike true paths (now (draws .entry)))
+        (now (seen .entry)) (now (seen .exit)) (r .number) (r .place) (r .steps) ⌝ }
 {
     vanilla_answer(calls::vanilla::price_vanilla(
         weights,
@@ -403,10 +415,18 @@ pub extern "C" fn qrh_vix_batch(
     workspace: &mut [f64],
     seen: &mut [f64],
 ) -> VixBatchAnswer
-    ensures answer { λ r. ⌜ r ≡ vixBatchAnswer (vixBatchCall (vixBatchInputs (given (now (weights .entry)) (now (discounts .entry)) params segments) window payoff paths (now (draws .entry))) (length (now (workspace .entry))) (now (seen .entry))) ⌝ }
-    ensures table { λ r. ⌜ now (seen .exit) ≡ vixBatchTable (vixBatchInputs (given (now (weights .entry)) (now (discounts .entry)) params segments) window payoff paths (now (draws .entry))) (length (now (workspace .entry))) (now (seen .entry)) ⌝ }
-    ensures claim { λ r. ⌜ VixBatchClaim (vixBatchInputs (given (now (weights .entry)) (now (discounts .entry)) params segments) window payoff paths (now (draws .entry))) (length (now (workspace .entry))) (now (seen .entry)) (now (seen .exit)) (r .number) (r .place) (r .steps) ⌝ }
-    ensures workspace { λ r. ⌜ KeptUnlessPassed (firstNo (throughSixteen (vixBatchInputs (given (now (weights .entry)) (now (discounts .entry)) params segments) window payoff paths (now (draws .entry))) (length (now (workspace .entry))))) (now (workspace .entry)) (now (workspace .exit)) ⌝ }
+    ensures answer { λ r. ⌜ r ≡ vixBatchAnswer (vixBatchCall
+        (vixBatchInputs (given (now (weights .entry)) (now (discounts .entry)) params segments) window payoff paths (now (draws .entry)))
+        (length (now (workspace .entry))) (now (seen .entry))) ⌝ }
+    ensures table { λ r. ⌜ now (seen .exit) ≡ vixBatchTable
+        (vixBatchInputs (given (now (weights .entry)) (now (discounts .entry)) params segments) window payoff paths (now (draws .entry)))
+        (length (now (workspace .entry))) (now (seen .entry)) ⌝ }
+    ensures claim { λ r. ⌜ VixBatchClaim
+        (vixBatchInputs (given (now (weights .entry)) (now (discounts .entry)) params segments) window payoff paths (now (draws .entry)))
+        (length (now (workspace .entry))) (now (seen .entry)) (now (seen .exit)) (r .number) (r .place) (r .steps) ⌝ }
+    ensures workspace { λ r. ⌜ KeptUnlessPassed (firstNo (throughSixteen
+        (vixBatchInputs (given (now (weights .entry)) (now (discounts .entry)) params segments) window payoff paths (now (draws .entry)))
+        (length (now (workspace .entry))))) (now (workspace .entry)) (now (workspace .exit)) ⌝ }
 {
     vix_batch_answer(calls::vix_batch::price_vix(
         weights,
