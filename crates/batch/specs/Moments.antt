@@ -4,7 +4,7 @@ use mathlib.Core.List.{List, [], _∷_}
 use Prim.Native.Nat.{ℕ, zero, suc, pred, _+_, _*_}
 use lib.ListN.{getD}
 use lib.Ieee.{Float, nan, binary64, add, sub, mul, div, lt}
-use Rattle.numeric.specs.Double.{plus, minus, times, over, one, plusZero, finite, positivePart}
+use Rattle.numeric.specs.Double.{plus, less, times, over, one, plusZero, finite, positivePart}
 use Rattle.numeric.specs.Root.{root}
 use Rattle.refusal.specs.declared.Refusal.the-variants.{OnPath}
 use Rattle.refusal.specs.Questions.{Question, ask}
@@ -23,9 +23,9 @@ unfoldable pub withValue : Moments → Float → Moments
 unfolding add sub mul div
 withValue m v =
     let count = plus (m .count) one in
-    let e = minus v (m .mean) in
+    let e = less v (m .mean) in
     let mean = plus (m .mean) (over e count) in
-    record { count = count; mean = mean; «squared_deviations» = plus (m .«squared_deviations») (times e (minus v mean)) }
+    record { count = count; mean = mean; «squared_deviations» = plus (m .«squared_deviations») (times e (less v mean)) }
 
 -- the moments of value 1, .. value n
 unfoldable pub momentsOf : (ℕ → Float) → ℕ → Moments
@@ -39,15 +39,15 @@ unfolding sub div root
 estimateOf m =
     record {
       mean = m .mean;
-      error = root binary64 (over (over (m .«squared_deviations») (minus (m .count) one)) (m .count));
+      error = root binary64 (over (over (m .«squared_deviations») (less (m .count) one)) (m .count));
     }
 
 -- "call: spot - strike, put: strike - spot, not below 0, a NaN giving 0"; "a future pays it"
 unfoldable pub payoffOf : Payoff → Float → Float
 unfolding sub positivePart
 payoffOf Future x = x
-payoffOf (Vanilla Call strike) x = positivePart (minus x strike)
-payoffOf (Vanilla Put strike) x = positivePart (minus strike x)
+payoffOf (Vanilla Call strike) x = positivePart (less x strike)
+payoffOf (Vanilla Put strike) x = positivePart (less strike x)
 
 -- what a payoff looks at: the last observation, the spot, or for the VIX "the root of a path's last squared value"
 abbrev pub underlyingOf : Bool → Float → Float

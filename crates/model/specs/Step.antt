@@ -4,7 +4,7 @@ use mathlib.Core.List.{List}
 use Prim.Native.Nat.{ℕ, zero, suc}
 use lib.ListN.{getD, take}
 use lib.Ieee.{Float, nan, binary64, add, sub, mul, div, neg}
-use Rattle.numeric.specs.Double.{plus, minus, times, over, one, minusZero, finite}
+use Rattle.numeric.specs.Double.{plus, less, times, over, one, minusZero, finite}
 use Rattle.numeric.specs.Root.{root}
 use Rattle.numeric.specs.Table.{tabulate}
 use Rattle.refusal.specs.declared.Quantity.the-variants.{Spot, Z, Variance}
@@ -24,7 +24,7 @@ weightedSum weights factors (suc k) =
 -- "With s = z - b, variance = a × s × s + c"
 unfoldable pub varianceAt : RawParams → Float → Float
 unfolding add mul sub
-varianceAt p z = let s = minus z (p .b) in plus (times (times (p .a) s) s) (p .c)
+varianceAt p z = let s = less z (p .b) in plus (times (times (p .a) s) s) (p .c)
 
 -- the state with this spot and these factors: "z and variance are read anew"
 unfoldable pub read : Kernel → RawParams → Float → List Float → State

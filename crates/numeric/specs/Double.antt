@@ -5,12 +5,12 @@ use lib.Ieee.{Float, nan, inf, fin, binary64, add, sub, mul, div, lt}
 -- neither a NaN nor an infinity
 pub use lib.Ieee.Scale.{finite}
 
--- ---- the operations, in the order written: `times x y` is x * y, `over x y` is x / y
+-- ---- the operations, in the order written: `less x y` is x - y, `times x y` is x * y, `over x y` is x / y
 abbrev pub plus : Float → Float → Float
 plus x y = add binary64 x y
 
-abbrev pub minus : Float → Float → Float
-minus x y = sub binary64 x y
+abbrev pub less : Float → Float → Float
+less x y = sub binary64 x y
 
 abbrev pub times : Float → Float → Float
 times x y = mul binary64 x y
