@@ -5,8 +5,7 @@ use Prim.Native.Nat.{ℕ, suc, _/_, _%_, _<_, _≤_}
 use native.Mathlib.Nat.{le-refl}
 use native.Mathlib.Omega.{arith}
 use lib.ListN.{getD}
-use lib.Ieee.{Float, nan, binary64, ofBits}
-use Rattle.numeric.specs.Double.{plusZero}
+use lib.Ieee.{Float, nan}
 use Rattle.model.specs.declared.Kernel.{Kernel}
 use Rattle.model.specs.declared.RawParams.{RawParams}
 use Rattle.model.specs.declared.Rates.{Rates}
@@ -26,10 +25,6 @@ use Rattle.batch.specs.Batch.{drawPlace, drawsNeeded, observationOf}
 use Rattle.batch.proofs.Cells.{row-last}
 
 -- the code's 0.0
-pub zero-bits : ofBits binary64 0 ≡ plusZero
-unfolding ofBits
-zero-bits = refl
-
 pub finite-in-use : (n : ℕ) (s : State) → finiteness (stateInUse n s) ≡ finiteness s
 unfolding finiteness
 finite-in-use n s = refl

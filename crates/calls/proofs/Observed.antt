@@ -4,7 +4,6 @@ use mathlib.Core.List.{List}
 use Prim.Native.Nat.{ℕ}
 use native.Mathlib.Omega.{arith}
 use lib.Ieee.{Float}
-use Rattle.refusal.specs.declared.Quantity.{Quantity}
 use Rattle.model.specs.declared.Finiteness.{Finiteness}
 use Rattle.model.specs.declared.Finiteness.the-variants.{Finite, NonFinite}
 use Rattle.model.specs.Laid.{Laid}
@@ -14,14 +13,12 @@ use Rattle.batch.specs.Batch.{Batch, observation}
 use Rattle.batch.specs.Claim.{OneTo, FiniteAt, IsRefused, Demand3}
 use Rattle.batch.specs.Moments.{lastSeen}
 use Rattle.batch.proofs.Values.{SameUpTo}
-
-finite-apart : (q : Quantity) → NonFinite q ≡ Finite → ⊥
-finite-apart q e = let z : _≡_ {A = ℕ} 0 1 = cc in omega arith
+use Rattle.model.proofs.FiniteStates.{not-finite}
 
 -- what is not not finite is finite
 decided : (f : Finiteness) → ((f ≡ Finite → ⊥) → ⊥) → f ≡ Finite
 decided Finite h = refl
-decided (NonFinite q) h = absurd (h (finite-apart q))
+decided (NonFinite q) h = absurd (h (not-finite q))
 
 module _ (b : Batch) (laid : Laid (b .schedule)) (lent after : List Float) (answer : Run) (claim : Demand3 b lent after answer) {steps low : ℕ} (done : answer ≡ run.Done steps low) where
   all-finite : (p k : ℕ) → OneTo (b .paths) p → OneTo (b .schedule .total) k → FiniteAt b p k

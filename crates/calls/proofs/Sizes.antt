@@ -1,6 +1,6 @@
 -- How many paths, draws and observations a batch may have: what questions 19 to 21 leave. Assumes nothing.
 use mathlib.Core.Path.{_≡_, _∙_}
-use mathlib.Core.Bool.{Bool, true, false, not, _&&_, _||_}
+use mathlib.Core.Bool.{Bool, true, false, not, _&&_, _||_, and-eq-true-iff}
 use mathlib.Core.List.{List, [], _∷_}
 use Prim.Native.Nat.{ℕ, _*_, _%_, _≤_}
 use native.Mathlib.Nat.{mul-le-mul}
@@ -17,7 +17,6 @@ use Rattle.refusal.proofs.Laws.{in-turn, passed-head, passed-tail}
 use Rattle.model.specs.declared.Kernel.{Kernel}
 use Rattle.model.specs.declared.Schedule.{Schedule}
 use Rattle.model.specs.Laid.{Laid}
-use Rattle.model.proofs.First.{both-true}
 use Rattle.vix.specs.declared.Vix.{Vix}
 use Rattle.batch.specs.Batch.{Prepared, drawsNeeded}
 use Rattle.calls.specs.Batches.{pathsPass, batchQuestions}
@@ -36,11 +35,11 @@ module _ (mirrored : Bool) (paths : ℕ) (pass : pathsPass mirrored paths ≡ tr
   unfolding pathsPass
   paths-most =
       leb-true paths 65536
-      (both-true (leb 2 paths) (leb paths 65536) (both-true (leb 2 paths && leb paths 65536) (not mirrored || eqb (paths % 2) 0) pass .0) .1)
+      (and-eq-true-iff (leb 2 paths) (leb paths 65536) .0 (and-eq-true-iff (leb 2 paths && leb paths 65536) (not mirrored || eqb (paths % 2) 0) .0 pass .0) .1)
 
   pub paths-even : mirrored ≡ true → paths % 2 ≡ 0
   unfolding pathsPass
-  paths-even = even mirrored paths (both-true (leb 2 paths && leb paths 65536) (not mirrored || eqb (paths % 2) 0) pass .1)
+  paths-even = even mirrored paths (and-eq-true-iff (leb 2 paths && leb paths 65536) (not mirrored || eqb (paths % 2) 0) .0 pass .1)
 
 -- ---- 19 to 21
 module _ (sched : Schedule) (mirrored : Bool) (paths : ℕ) (draws lent : List Float) where

@@ -1,10 +1,9 @@
 -- The trace call: what each refusal and the walk come to. Assumes nothing.
 use mathlib.Core.Path.{_≡_, refl, sym, ap, _∙_}
-use mathlib.Core.Bool.{Bool, true, false, _&&_}
+use mathlib.Core.Bool.{true, false, and-eq-true-iff}
 use mathlib.Core.List.{List, [], _∷_}
 use Prim.Native.Nat.{ℕ, pred, _+_, _*_, _≤_}
 use native.Mathlib.Nat.{le-trans, mul-le-mul-left, mul-le-mul-right}
-use native.Mathlib.Omega.{arith}
 use borrow.Author.Tests.{eqb-true, eq-eqb, ne-eqb}
 use lib.Dec.{eqb}
 use lib.ListN.{length, getD}
@@ -37,15 +36,11 @@ use Rattle.calls.specs.Trace.{lengthsRight, traceQuestions, traceWalk, a
 pub factors-fit : (points n : ℕ) → points ≤ 4097 → n ≤ 10 → points * n ≤ 40970
 factors-fit points n p q = le-trans (mul-le-mul-left points q) (mul-le-mul-right 10 p)
 
-both : (a b : Bool) → (a && b) ≡ true → (a ≡ true) × (b ≡ true)
-both true b e = (refl, e)
-both false b e = let never : _≡_ {A = ℕ} 0 1 = cc in absurd (omega arith)
-
 pub sized : (total n : ℕ) (t : Tables) → lengthsRight (total + 1) n (length (t .spots)) (length (t .variances)) (length (t .zs)) (length (t .factors)) ≡ true → Sized total n t
 sized total n t e =
-    let first = both _ _ e in
-    let second = both _ _ (first .1) in
-    let third = both _ _ (second .1) in
+    let first = and-eq-true-iff _ _ .0 e in
+    let second = and-eq-true-iff _ _ .0 (first .1) in
+    let third = and-eq-true-iff _ _ .0 (second .1) in
     record {
       spots = eqb-true _ _ (first .0);
       variances = eqb-true _ _ (second .0);

@@ -1,5 +1,5 @@
 -- The questions of a VIX batch, one door after the other, and what they leave. Assumes nothing.
-use mathlib.Core.Path.{_≡_, refl, sym, _∙_, ap, subst}
+use mathlib.Core.Path.{_≡_, sym, _∙_, ap, subst}
 use mathlib.Core.Bool.{false}
 use mathlib.Core.List.{List, _++_}
 use Prim.Native.Nat.{ℕ}
@@ -10,7 +10,7 @@ use Rattle.refusal.specs.declared.Outcome.{Outcome}
 use Rattle.refusal.specs.declared.Outcome.the-variants.{Passed, Refused}
 use Rattle.refusal.specs.declared.Refusal.{Refusal}
 use Rattle.refusal.specs.Questions.{Question, firstNo, orLater, KeptUnlessPassed}
-use Rattle.refusal.proofs.Laws.{append, never-both, then, stops}
+use Rattle.refusal.proofs.Laws.{append, then, stops, earlier-passed}
 use Rattle.model.specs.declared.Kernel.{Kernel}
 use Rattle.doors.specs.declared.ModelDoor.{ModelDoor}
 use Rattle.model.specs.declared.RawParams.{RawParams}
@@ -33,11 +33,6 @@ use Rattle.calls.specs.VixCall.{windowQuestions, formQuestions, FormPrep
 use Rattle.calls.specs.VixBatch.{VixBatchInputs, payoffFor, payoffQuestions, vixBatchQuestions, vixBatch, vixBatchCall, vixBatchTable, VixBatchClaim, throughSixteen}
 use Rattle.calls.proofs.Asked.{same-batch, same-sizes, call-refused, call-passed}
 use Rattle.calls.proofs.Sizes.{prepared}
-
--- where both passed, so did the first
-passed-both : (first second : Outcome) → orLater first second ≡ Passed → first ≡ Passed
-passed-both Passed second e = refl
-passed-both (Refused r) second e = absurd (never-both _ r refl e)
 
 -- the outcome of 15 to 17, then of the payoff's
 abbrev pub second : VixBatchInputs → FormDoor → Outcome
@@ -122,7 +117,7 @@ module _ (i : VixBatchInputs) (size : ℕ) (lent : List Float) where
 
           -- the form that the code has is the form over the window
           form-is : vixInUse (form .vix) ≡ vixOf (kernelInUse (door .kernel)) (door .raw) (value (i .window))
-          form-is = built .ready (passed-both (form .outcome) _ h)
+          form-is = built .ready (earlier-passed (form .outcome) _ h)
 
           factors-is : form .vix .n ≡ door .kernel .n
           unfolding vixOf

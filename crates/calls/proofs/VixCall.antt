@@ -15,7 +15,7 @@ use Rattle.refusal.specs.declared.Refusal.the-variants.{Plain}
 use Rattle.refusal.specs.declared.Outcome.{Outcome}
 use Rattle.refusal.specs.declared.Outcome.the-variants.{Passed, Refused}
 use Rattle.refusal.specs.Questions.{Question, asked, firstNo, orLater, further, KeptUnlessPassed}
-use Rattle.refusal.proofs.Laws.{append, then, stops, in-turn, never-both, passed-head, passed-tail}
+use Rattle.refusal.proofs.Laws.{append, then, stops, in-turn, never-both, passed-head, passed-tail, earlier-passed, later-same}
 use Rattle.model.specs.declared.Kernel.{Kernel}
 use Rattle.model.specs.declared.RawParams.{RawParams}
 use Rattle.doors.specs.declared.KernelDoor.{KernelDoor}
@@ -116,14 +116,6 @@ pub form-n : (k : Kernel) (p : RawParams) (w : Float) (v : Vix) → vixInUse v �
 unfolding vixOf formOf
 form-n k p w v e = ap (λ (x : Vix). x .n) e
 
-later-counts : (first second second' : Outcome) → (first ≡ Passed → second ≡ second') → orLater first second ≡ orLater first second'
-later-counts Passed second second' same = same refl
-later-counts (Refused r) second second' same = refl
-
-passed-first : (first second : Outcome) → orLater first second ≡ Passed → first ≡ Passed
-passed-first Passed second e = refl
-passed-first (Refused r) second e = e
-
 module _ (i : VixInputs) (workspace : ℕ) where
   pub initial-refused : (x : Refusal) → firstNo (initialQuestions i) ≡ Refused x → evaluation.Refused x ≡ vixCall i workspace
   unfolding vixCall vixQuestions
@@ -137,12 +129,12 @@ module _ (i : VixInputs) (workspace : ℕ) where
     initial-asked =
         let kernel = kernelQuestions (i .weights) (i .discounts) in
         let params = paramsQuestions (length (i .weights)) (i .params) in
-        later-counts (k .outcome) (p .outcome) (firstNo params) (λ e. initial .outcome ∙ ap (λ (x : Kernel). firstNo (paramsQuestions (x .n) (i .params))) (tables .ready e .in-use))
+        later-same (k .outcome) (p .outcome) (firstNo params) (λ e. initial .outcome ∙ ap (λ (x : Kernel). firstNo (paramsQuestions (x .n) (i .params))) (tables .ready e .in-use))
         ∙ rw (tables .outcome) (sym (append kernel params))
 
     module _ (passed : orLater (k .outcome) (p .outcome) ≡ Passed) where
       ready : KernelReady (i .weights) (i .discounts) (k .kernel)
-      ready = tables .ready (passed-first (k .outcome) (p .outcome) passed)
+      ready = tables .ready (earlier-passed (k .outcome) (p .outcome) passed)
 
       passed-initial : firstNo (initialQuestions i) ≡ Passed
       passed-initial = sym initial-asked ∙ passed

@@ -5,7 +5,7 @@ use mathlib.Core.Bool.{Bool, true, false, not, _&&_, _||_, cond, true≢false}
 use Prim.Native.Nat.{ℕ, _*_, _^_, _≤_, _<_, zero-le}
 use lib.Dec.{T, leb}
 use lib.IntN.{ℤ, pos, negsuc}
-use lib.Ieee.{Float, fin, binary64, up, down, le, fits, ofBits}
+use lib.Ieee.{Float, fin, binary64, up, down, le, fits}
 use lib.Ieee.Fits.{round-fits, cond-fits}
 use lib.Ieee.Scale.{finite}
 use lib.Ieee.Positive.{num, den, positive, between}
@@ -18,10 +18,6 @@ use Rattle.decimal.proofs.Zero.{nonzero, negative-is, positive-nonzero,
 use Rattle.decimal.proofs.Bounds.{within, at-least, at-most, at-lowest, not-below}
 
 -- the pattern of +0.0, as the code writes it
-pub zero-bits : ofBits binary64 0 ≡ plusZero
-unfolding ofBits
-zero-bits = refl
-
 -- ---- the cases of `value`
 by-tests : (d : Decimal) (z f : Bool) → isZero d ≡ z → leb (d .scale) 28 ≡ f → value d ≡ cond z plusZero (cond f (nearestDouble d) plusZero)
 unfolding value

@@ -1,6 +1,6 @@
 -- A Decimal as document 01 has it: its exact value, its comparison with zero, question 1, and the double that it converts to.
 -- `round` is lib.Ieee's account of IEEE 754: the value of the format that is nearest to a fraction, at a tie the one with the even significand.
-use mathlib.Core.Bool.{Bool, false, cond, _||_}
+use mathlib.Core.Bool.{Bool, cond, _||_}
 use Prim.Native.Nat.{ℕ, _+_, _*_, _^_}
 use lib.Dec.{eqb, leb}
 use lib.IntN.{ℤ, pos, negℤ}

@@ -1,6 +1,6 @@
 // Numbers of two words, hi * 2^64 + lo, moved left and divided by powers of five.
 ghost use mathlib.Core.Path.{_≡_};
-ghost use Prim.Native.Nat.{_+_, _^_, _≤_, _<_, min};
+ghost use Prim.Native.Nat.{_+_, _^_, _<_, min};
 ghost use Rattle.decimal.specs.Steps.{wide, IsAligned, IsDivided, IsDividedOnce, IsQuotient};
 
 pub(crate) struct Aligned {

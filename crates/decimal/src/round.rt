@@ -1,6 +1,6 @@
 // The highest word of a quotient, rounded to a double.
 ghost use mathlib.Core.Path.{_≡_};
-ghost use Prim.Native.Nat.{_+_, _*_, _^_, _≤_, _<_, min};
+ghost use Prim.Native.Nat.{_+_, _*_, _^_, _≤_, _<_};
 ghost use lib.Ieee.{binary64, units};
 ghost use lib.Ieee.Nearest.{closest};
 

@@ -1,6 +1,6 @@
 -- The questions of the matrix call and its answer. Assumes nothing.
 use mathlib.Core.Path.{_≡_, refl, sym, ap, _∙_, subst}
-use mathlib.Core.Bool.{Bool, true, false, cond, _&&_, true≢false}
+use mathlib.Core.Bool.{Bool, true, false, cond, _&&_, and-eq-true-iff}
 use mathlib.Core.List.{List, [], _∷_}
 use Prim.Native.Nat.{ℕ, _*_, _≤_, _<_}
 use native.Mathlib.Omega.{arith}
@@ -47,16 +47,12 @@ pub record Right (n input output : ℕ) : Type 0 where
   pub input-is : input ≡ n * n
   pub output-is : output ≡ n * n
 
-and-both : (a b : Bool) → (a && b) ≡ true → (a ≡ true) × (b ≡ true)
-and-both true b e = (refl, e)
-and-both false b e = absurd (true≢false (sym e))
-
 pub right : (n input output : ℕ) → shapeRight n input output ≡ true → Right n input output
 unfolding shapeRight
 right n input output e =
-    let p = and-both (leb 1 n) (leb n 67 && (eqb input (n * n) && eqb output (n * n))) e in
-    let q = and-both (leb n 67) (eqb input (n * n) && eqb output (n * n)) (p .1) in
-    let r = and-both (eqb input (n * n)) (eqb output (n * n)) (q .1) in
+    let p = and-eq-true-iff (leb 1 n) (leb n 67 && (eqb input (n * n) && eqb output (n * n))) .0 e in
+    let q = and-eq-true-iff (leb n 67) (eqb input (n * n) && eqb output (n * n)) .0 (p .1) in
+    let r = and-eq-true-iff (eqb input (n * n)) (eqb output (n * n)) .0 (q .1) in
     record { least = leb-true 1 n (p .0); most = leb-true n 67 (q .0); input-is = eqb-true input (n * n) (r .0); output-is = eqb-true output (n * n) (r .1) }
 
 -- ---- the answer, and what is written

@@ -1,6 +1,6 @@
 -- The segment that contains a step. In a schedule as its door lays it out, each step from 1 to N is contained in exactly one. Assumes nothing.
 use mathlib.Core.Path.{_≡_, refl, sym, ap, _∙_}
-use mathlib.Core.Bool.{Bool, true, false, and-false}
+use mathlib.Core.Bool.{Bool, true, false, and-false, and-eq-true-iff}
 use mathlib.Core.Logic.{⊎-elim}
 use Prim.Native.Nat.{ℕ, zero, suc, _+_, _≤_, _<_}
 use native.Mathlib.Numerals.{add-one}
@@ -13,7 +13,7 @@ use lib.Ieee.{nan}
 use Rattle.model.specs.declared.Schedule.{Schedule}
 use Rattle.model.specs.Schedule.{lastStep, contains, orNext, firstOf, segmentOf, dtAt, sqrtDtAt, scheduleInUse}
 use Rattle.model.specs.Laid.{Laid, ContainedOnce}
-use Rattle.model.proofs.First.{split, both-true}
+use Rattle.model.proofs.First.{split}
 
 -- ---- the first number that passes
 module _ (passes : ℕ → Bool) where
@@ -156,7 +156,7 @@ module _ (sc : Schedule) (laid : Laid sc) where
 
   contained : (j k : ℕ) → contains sc (suc j) k ≡ true → (lastStep sc j < k) × (k ≤ lastStep sc (suc j))
   contained j k e =
-      let r = both-true (ltb (lastStep sc j) k) (leb k (lastStep sc (suc j))) e in
+      let r = and-eq-true-iff (ltb (lastStep sc j) k) (leb k (lastStep sc (suc j))) .0 e in
       (ltb-true (lastStep sc j) k (r .0), leb-true k (lastStep sc (suc j)) (r .1))
 
   pub segment-only : (g j k : ℕ) → g < sc .count → j < sc .count → lastStep sc g < k → k ≤ lastStep sc (suc g) → contains sc (suc j) k ≡ true → j ≡ g

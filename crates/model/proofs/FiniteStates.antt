@@ -1,7 +1,7 @@
 -- States stay finite and the variance at least c: a finite z has finite factors, adding what is not negative to c gives no less than c, and a start of bounded doubles is finite.
 -- Assumes nothing.
 use mathlib.Core.Path.{_≡_, refl, sym, ap, _∙_, subst}
-use mathlib.Core.Bool.{Bool, true, false}
+use mathlib.Core.Bool.{Bool, true, false, and-eq-true-iff}
 use mathlib.Core.List.{List}
 use mathlib.Core.Logic.{⊎-elim}
 use Prim.Native.Nat.{ℕ, zero, suc, _+_, _*_, _^_, _≤_, _<_}
@@ -21,7 +21,7 @@ use Rattle.model.specs.Kernel.{inRange}
 use Rattle.model.specs.Step.{weightedSum, varianceAt, read, step, firstOfThree, finiteness}
 use Rattle.model.specs.Walk.{Walk, stateAfter}
 use Rattle.model.specs.Admitted.{Converted, Admitted, Sound}
-use Rattle.model.proofs.First.{split, both-true}
+use Rattle.model.proofs.First.{split}
 use Rattle.numeric.proofs.Finite.{never, sign, plus-finite, times-finite}
 use Rattle.numeric.proofs.Order.{le→ordered}
 use Rattle.numeric.proofs.Monotone.{variance-ge}
@@ -40,7 +40,7 @@ sum-factors weights factors (suc n) h i l =
     (split i n)
 
 -- ---- spot, z and variance of a finite state
-not-finite : (q : Quantity) → NonFinite q ≡ Finite → ⊥
+pub not-finite : (q : Quantity) → NonFinite q ≡ Finite → ⊥
 not-finite q e = let z : _≡_ {A = ℕ} 0 1 = cc in omega arith
 
 three : (a b c : Bool) → firstOfThree a b c ≡ Finite → (a ≡ true) × (b ≡ true) × (c ≡ true)
@@ -78,7 +78,7 @@ converted-within {x} h = small-within x (h .small)
 weight-within : (x : Float) → inRange x ≡ true → Within 90 x
 unfolding inRange
 weight-within x h =
-    let ends = both-true (le (fin false 1 (negsuc 89)) x) (le x (fin false 1 (pos 90))) h in
+    let ends = and-eq-true-iff (le (fin false 1 (negsuc 89)) x) (le x (fin false 1 (pos 90))) .0 h in
     range 89 90 x (ends .0) (ends .1) .within
 
 -- a number that is its own magnitude has no minus sign

@@ -1,6 +1,5 @@
 -- The first that there is among f 1, f 2, ..: what more of them change, and what fewer. Assumes nothing.
 use mathlib.Core.Path.{_≡_, refl, sym, _∙_, subst}
-use mathlib.Core.Bool.{Bool, true, false, _&&_}
 use mathlib.Core.Option.{Option, none, some}
 use mathlib.Core.Logic.{_⊎_, inl, inr}
 use Prim.Native.Nat.{ℕ, zero, suc, _+_, _-_, _<_, _≤_}
@@ -15,10 +14,6 @@ split a b = go (decLt a b)
     go : Dec (a < b) → (a < b) ⊎ (b ≤ a)
     go (yes h) = inl h
     go (no h) = inr (omega arith)
-
-pub both-true : (a b : Bool) → (a && b) ≡ true → (a ≡ true) × (b ≡ true)
-both-true true b h = (refl, h)
-both-true false b h = let z : _≡_ {A = ℕ} 0 1 = cc in absurd (omega arith)
 
 pub none-some : {A : Type 0} (x : A) → none ≡ some x → ⊥
 none-some x e = let z : _≡_ {A = ℕ} 0 1 = cc in omega arith

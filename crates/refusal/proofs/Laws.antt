@@ -29,6 +29,24 @@ unless-later : (passes : Bool) (refusal : Refusal) (o later : Outcome) → unles
 unless-later true refusal o later = refl
 unless-later false refusal o later = refl
 
+-- ---- earlier questions and later ones
+pub earlier-passed : (first second : Outcome) → orLater first second ≡ Passed → first ≡ Passed
+earlier-passed Passed second e = refl
+earlier-passed (Refused r) second e = absurd (never-both _ r refl e)
+
+pub later-passed : (first second : Outcome) → orLater first second ≡ Passed → second ≡ Passed
+later-passed Passed second e = e
+later-passed (Refused r) second e = absurd (never-both _ r refl e)
+
+-- the later ones count only where the earlier ones passed
+pub later-same : (first second second′ : Outcome) → (first ≡ Passed → second ≡ second′) → orLater first second ≡ orLater first second′
+later-same Passed second second′ same = same refl
+later-same (Refused r) second second′ same = refl
+
+pub later-grouped : (first second third : Outcome) → orLater first (orLater second third) ≡ orLater (orLater first second) third
+later-grouped Passed second third = refl
+later-grouped (Refused r) second third = refl
+
 -- ---- asked one after another, as a row of calls of `ask` does
 abbrev pub asking : Outcome → List Question → Outcome
 asking o [] = o

@@ -4,7 +4,7 @@ use mathlib.Core.List.{List}
 use Prim.Native.Nat.{ℕ}
 use lib.ListN.{getD}
 use lib.Ieee.{binary64, ofBits}
-use Rattle.decimal.proofs.Value.{zero-bits}
+use Rattle.numeric.proofs.Doubles.{zero-is}
 use Rattle.refusal.specs.declared.Refusal.{Refusal}
 use Rattle.refusal.specs.declared.Refusal.the-variants.{Plain, InTable, AtSegment, NonFinite, OnPath, Estimate}
 use Rattle.refusal.specs.Refusal.{numberOf, placeOf}
@@ -32,7 +32,7 @@ pub refusal-traced : (r : Refusal) (number : ℕ) (place : List ℕ) → number 
 refusal-traced r number place e f = rw (e, f, fourth r)
 
 pub refusal-evaluated : (r : Refusal) (number : ℕ) (place : List ℕ) → number ≡ numberOf r → place ≡ placeOf r → _≡_ {A = VixAnswer} (record { number = number; place = place; squared = ofBits binary64 0; index = ofBits binary64 0 }) (evaluatedAnswer (evaluation.Refused r))
-refusal-evaluated r number place e f = rw (e, f, zero-bits)
+refusal-evaluated r number place e f = rw (e, f, zero-is)
 
 -- ---- an exported answer has the number, the place and the steps of what was priced
 module _ (P : ℕ → List ℕ → ℕ → Type 0) where

@@ -1,9 +1,9 @@
 -- The value of the quadratic form at a factor state. Definitions only.
 use mathlib.Core.List.{List}
 use Prim.Native.Nat.{ℕ, zero, suc, _+_, _-_}
-use lib.ListN.{getD, take}
+use lib.ListN.{getD, take, replicate}
 use lib.Ieee.{Float, nan, add, mul}
-use Rattle.numeric.specs.Double.{plus, times}
+use Rattle.numeric.specs.Double.{plus, times, plusZero}
 use Rattle.vix.specs.declared.Vix.{Vix}
 
 -- "pairs (i, j) with i ≤ j row by row": how many pairs stand in the rows before row i, of n factors, i counted from 0
@@ -45,4 +45,15 @@ vixInUse v =
       constant = v .constant;
       linear = take (v .n) (v .linear);
       pairs = take (pairsBefore (v .n) (v .n)) (v .pairs);
+    }
+
+-- a form in n factors that is zero, in those arrays: it stands where none is built or looked at
+abbrev pub noForm : ℕ → Vix
+noForm n =
+    record {
+      n = n;
+      scale = plusZero;
+      constant = plusZero;
+      linear = replicate 10 plusZero;
+      pairs = replicate 55 plusZero;
     }

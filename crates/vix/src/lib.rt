@@ -2,7 +2,7 @@
 ghost use mathlib.Core.Path.{_≡_};
 ghost use Prim.Native.Nat.{_+_, _*_, _-_, _≤_, _<_};
 ghost use lib.ListN.{length, take};
-ghost use Rattle.vix.specs.Form.{pairsBefore, linearValue, rowValue, rawSquared, vixInUse};
+ghost use Rattle.vix.specs.Form.{pairsBefore, linearValue, rowValue, rawSquared, vixInUse, noForm};
 ghost use Rattle.vix.specs.Generator.{dimension};
 ghost use Rattle.model.specs.Step.{kernelInUse};
 ghost use Rattle.vix.specs.Build.{VixPrepared};
@@ -104,7 +104,7 @@ pub fn dimension_of(n: usize) -> usize
 
 // A form in n factors that is zero, where none is built or looked at.
 pub fn no_form(n: usize) -> Vix
-    ensures { λ r. ⌜ r .n ≡ n ⌝ }
+    ensures { λ r. ⌜ r ≡ noForm n ⌝ }
 {
     Vix {
         n: n,

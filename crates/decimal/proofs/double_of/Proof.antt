@@ -6,7 +6,8 @@ use Prim.Native.Nat.{_≤_}
 use borrow.Author.Needs.{needs}
 use borrow.Author.Tests.{ltb-true, ltb-false}
 use Rattle.decimal.specs.Decimal.{isZero}
-use Rattle.decimal.proofs.Value.{zero-bits, zero-value, nearest-value, refused-value}
+use Rattle.numeric.proofs.Doubles.{zero-is}
+use Rattle.decimal.proofs.Value.{zero-value, nearest-value, refused-value}
 use Rattle.decimal.proofs.Zero.{nonzero}
 use Rattle.decimal.proofs.double_of.Statement.{statement}
 use Rattle.decimal.proofs.double_of.Tie as tie
@@ -18,7 +19,7 @@ returns : tie.Need-returns
 returns c =
     let d = c .before .before .args .d in
     let said = sym (c .before .is-zero .ensures) in
-    zero-bits
+    zero-is
     ∙ sym
     (⊎-elim (λ w. zero-value d (said ∙ w .taken)) (λ w. refused-value d (said ∙ w .0 .left) (ltb-true 28 (d .scale) (w .2 .taken))) (c .if1 .came))
 

@@ -2,7 +2,7 @@
 use mathlib.Core.Path.{sym, ap, _∙_}
 use lib.Ieee.{Float}
 use borrow.Author.Needs.{needs}
-use Rattle.decimal.proofs.Value.{zero-bits}
+use Rattle.numeric.proofs.Doubles.{zero-is}
 use Rattle.terminal.specs.declared.Conversion.{Conversion}
 use Rattle.refusal.specs.Refusal.{noPlace}
 use Rattle.terminal.specs.Answers.{conversion}
@@ -25,7 +25,7 @@ returns : tie.Need-returns
 returns c = ap conversion (sym (c .before .value .given .1) ∙ c .before .before .before .decimal-to-f64 .ensures)
 
 returns-2 : tie.Need-returns-2
-returns-2 c = ap refusal zero-bits ∙ ap conversion (sym (c .enum-told .given .1) ∙ c .before .before .decimal-to-f64 .ensures)
+returns-2 c = ap refusal zero-is ∙ ap conversion (sym (c .enum-told .given .1) ∙ c .before .before .decimal-to-f64 .ensures)
 
 pub qrh-convert-spec : {M : Type 1} → statement M
 qrh-convert-spec =

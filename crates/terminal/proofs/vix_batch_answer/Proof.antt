@@ -1,7 +1,7 @@
 -- `terminal::vix_batch_answer` meets its contract: in each arm the answer is the one that `vixBatchAnswer` lists. Assumes nothing.
 use mathlib.Core.Path.{sym, ap}
 use borrow.Author.Needs.{needs}
-use Rattle.decimal.proofs.Value.{zero-bits}
+use Rattle.numeric.proofs.Doubles.{zero-is}
 use Rattle.terminal.specs.Answers.{vixBatchAnswer}
 use Rattle.terminal.proofs.vix_batch_answer.Statement.{statement}
 use Rattle.terminal.proofs.vix_batch_answer.Tie as tie
@@ -23,7 +23,7 @@ returns c = sym (ap vixBatchAnswer (c .before .before .before .priced .given .1)
 
 returns-2 : tie.Need-returns-2
 returns-2 c =
-    rw (c .before .number .ensures, c .place .ensures, zero-bits) (sym (ap vixBatchAnswer (c .before .before .before .priced2 .given .1)))
+    rw (c .before .number .ensures, c .place .ensures, zero-is) (sym (ap vixBatchAnswer (c .before .before .before .priced2 .given .1)))
 
 pub vix-batch-answer-spec : {M : Type 1} → statement M
 vix-batch-answer-spec =

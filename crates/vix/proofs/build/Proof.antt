@@ -4,6 +4,7 @@ use Prim.Native.Nat.{ℕ, _*_}
 use native.Mathlib.Omega.{arith}
 use lib.ListN.{length}
 use Rattle.model.specs.Step.{kernelInUse}
+use Rattle.vix.specs.declared.Vix.{Vix}
 use Rattle.vix.proofs.Places.{dimension-most}
 use Rattle.vix.proofs.Building.{not-finite, built}
 use borrow.Author.Needs.{needs}
@@ -53,7 +54,7 @@ returns c =
     let dim = filled .before .before in
     let start = dim .before .before in
     not-finite (kernelInUse (start .args .k)) (start .args .p) (start .args .window) (dim .dimension-of .ensures) (filled .fill .last .1 .1 .1 .1 .0) (filled .fill .ensures) (done .exponential .ensures .0)
-    (c .no-form .result) (told .1) (c .no-form .ensures)
+    (c .no-form .result) (told .1) (ap (λ (v : Vix). v .n) (c .no-form .ensures))
 
 same-length-2 : tie.Need-same-length-2
 same-length-2 c = search needs

@@ -18,7 +18,8 @@ use Rattle.model.specs.Step.{step, finiteness, kernelInUse, stateInUse}
 use Rattle.model.proofs.Laws.{rates-own}
 use Rattle.model.proofs.Containment.{laid-in-use, reached-open}
 use Rattle.batch.specs.Batch.{batchOf, drawOf}
-use Rattle.batch.proofs.Handed.{zero-bits, finite-in-use, draws-within, observed-in-use, step-in-use}
+use Rattle.numeric.proofs.Doubles.{zero-is}
+use Rattle.batch.proofs.Handed.{finite-in-use, draws-within, observed-in-use, step-in-use}
 use Rattle.batch.proofs.Turns.{Inner, Outer, Small, small, turn-first, next-state, raised, left-low, count-up, count-left, turn-on, turn-write, path-first, path-next, run-ends, entries-end, run-done, entries-done}
 use Rattle.batch.proofs.Whole.{whole}
 use Rattle.batch.proofs.Claim.{with-claim}
@@ -176,7 +177,7 @@ module _ (c : Flagged) where
   -- the flag of a non-positive path
   low-now : c .if1 .low ≡ (turn-of (step-of c) .before .loop .low || le (step-of c .step .result .spot) plusZero)
   low-now =
-      let zero = ap (le (step-of c .step .result .spot)) (sym zero-bits) in
+      let zero = ap (le (step-of c .step .result .spot)) (sym zero-is) in
       let low = turn-of (step-of c) .before .loop .low in
       ⊎-elim (λ w. raised low _ _ (zero ∙ w .0 .taken) (w .1)) (λ w. left-low low _ _ (zero ∙ w .0 .left) (w .1)) (c .if1 .came)
 

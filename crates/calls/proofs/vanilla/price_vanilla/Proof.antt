@@ -3,6 +3,7 @@ use mathlib.Core.Path.{_≡_, sym, ap, _∙_}
 use borrow.Author.Needs.{needs}
 use Rattle.refusal.specs.declared.Outcome.the-variants.{Passed}
 use Rattle.refusal.specs.Questions.{orLater}
+use Rattle.vix.specs.declared.Vix.{Vix}
 use Rattle.doors.specs.Model.{given}
 use Rattle.calls.specs.Vanilla.{VanillaInputs, vanillaInputs}
 use Rattle.calls.proofs.VanillaAsked.{first, first-refused, ready, sizes-refused, handed, priced-through}
@@ -24,6 +25,10 @@ first-is c =
 
 passed : (c : tie.After-enum-told) → first (inputs (start (c .before .before .before .before .before))) (c .before .before .before .before .before .prepare .result) ≡ Passed
 passed c = sym (first-is (c .before .before)) ∙ c .enum-told .given .1
+
+-- no form is looked at
+no-factors : (c : tie.After-no-form) → c .no-form .result .n ≡ 0
+no-factors c = ap (λ (v : Vix). v .n) (c .no-form .ensures)
 
 -- src/vanilla.rt:147:9
 prepare-requires : tie.Need-prepare-requires
@@ -93,7 +98,7 @@ run-batch-requires c κs =
     let given = asked .before .before .before .before .before .before .before in
     let prepared = given .prepare .ensures in
     let first = passed (asked .before .before) in
-    (handed (inputs (start given)) _ _ prepared first (sym (asked .batch-questions .ensures) ∙ told .enum-told2 .given .1) _ (made .no-form .ensures), ready (inputs (start given)) (start given .args .seen .now) _ prepared first .admitted)
+    (handed (inputs (start given)) _ _ prepared first (sym (asked .batch-questions .ensures) ∙ told .enum-told2 .given .1) _ (no-factors made), ready (inputs (start given)) (start given .args .seen .now) _ prepared first .admitted)
 
 -- src/vanilla.rt:131:1
 same-length-2 : tie.Need-same-length-2
@@ -108,7 +113,7 @@ returns-3 c =
     let told = made .before .before .before .before in
     let asked = told .before .before in
     let given = asked .before .before .before .before .before .before .before in
-    priced-through (inputs (start given)) _ _ (given .prepare .ensures) (passed (asked .before .before)) (sym (asked .batch-questions .ensures) ∙ told .enum-told2 .given .1) (made .no-form .result) (made .no-form .ensures) (paid .vanilla-payoff .ensures) (ran .run-batch .ensures)
+    priced-through (inputs (start given)) _ _ (given .prepare .ensures) (passed (asked .before .before)) (sym (asked .batch-questions .ensures) ∙ told .enum-told2 .given .1) (made .no-form .result) (no-factors made) (paid .vanilla-payoff .ensures) (ran .run-batch .ensures)
 
 pub price-vanilla-spec : {M : Type 1} → statement M
 price-vanilla-spec =
