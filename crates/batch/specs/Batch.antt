@@ -16,7 +16,7 @@ use Rattle.model.specs.declared.Schedule.{Schedule}
 use Rattle.model.specs.Step.{kernelInUse, stateInUse}
 use Rattle.model.specs.Schedule.{lastStep, scheduleInUse}
 use Rattle.model.specs.Laid.{Laid}
-use Rattle.model.specs.Walk.{Walk, Stop, stateAfter, stopWithin, firstSome, orElse}
+use Rattle.model.specs.Walk.{Walk, Stop, stateAfter, stopWithin, firstSome, orElse, unlessStopped}
 use Rattle.vix.specs.declared.Vix.{Vix}
 use Rattle.vix.specs.Form.{rawSquared, vixInUse}
 use Rattle.batch.specs.declared.Observed.{Observed}
@@ -39,26 +39,20 @@ abbrev pub walkOf : Batch → ℕ → Walk
 walkOf b p =
     record { kernel = b .kernel; raw = b .raw; start = b .start; schedule = b .schedule; draw = b .draw p }
 
--- "Path p uses draws (p - 1) × N + 1 to p × N."
-abbrev pub plainDraw : List Float → ℕ → ℕ → ℕ → Float
-plainDraw draws total p k = getD draws (pred p * total + pred k) nan
+-- where the draw of step k of path p stands among those lent, from 0. "Path p uses draws (p - 1) × N + 1 to p × N"; in a mirrored batch
+-- "path 2i - 1 uses draws (i - 1) × N + 1 to i × N and path 2i the same ones"
+abbrev pub drawPlace : Bool → ℕ → ℕ → ℕ → ℕ
+drawPlace true total p k = pred p / 2 * total + pred k
+drawPlace false total p k = pred p * total + pred k
 
--- "path 2i - 1 uses draws (i - 1) × N + 1 to i × N and path 2i the same ones negated"
+-- and path 2i has them "negated"
 abbrev pub negatedIf : Bool → Float → Float
 negatedIf true g = neg g
 negatedIf false g = g
 
-abbrev pub mirroredDraw : List Float → ℕ → ℕ → ℕ → Float
-mirroredDraw draws total p k = negatedIf (eqb (p % 2) 0) (getD draws (pred p / 2 * total + pred k) nan)
-
 abbrev pub drawOf : Bool → List Float → ℕ → ℕ → ℕ → Float
-drawOf true draws total p k = mirroredDraw draws total p k
-drawOf false draws total p k = plainDraw draws total p k
-
--- where that draw stands among those lent, from 0
-abbrev pub drawPlace : Bool → ℕ → ℕ → ℕ → ℕ
-drawPlace true total p k = pred p / 2 * total + pred k
-drawPlace false total p k = pred p * total + pred k
+drawOf true draws total p k = negatedIf (eqb (p % 2) 0) (getD draws (drawPlace true total p k) nan)
+drawOf false draws total p k = getD draws (drawPlace false total p k) nan
 
 -- the draws that a batch needs: paths × N, or "paths / 2 × N draws are lent"
 abbrev pub drawsNeeded : Bool → ℕ → ℕ → ℕ
@@ -116,10 +110,6 @@ runAnswer b = answerAt b (runStop b (b .paths))
 unfoldable pub observation : Batch → ℕ → ℕ → Float
 unfolding stateAfter
 observation b p j = b .observe (stateAfter (walkOf b p) (lastStep (b .schedule) j))
-
-abbrev pub unlessStopped : {A : Type 0} → Option A → Float → Float → Float
-unlessStopped none written lent = written
-unlessStopped (some s) written lent = lent
 
 -- "Its observation is written at each segment end"; "At 22 a batch has written the observations of segments ended before the failing step;
 -- the rest is untouched": no earlier path stopped, nor this one up to the segment's last step

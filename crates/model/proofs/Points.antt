@@ -12,8 +12,8 @@ use lib.Ieee.{Float, nan}
 use Rattle.numeric.proofs.Tables.{is-tabulate}
 use Rattle.model.specs.declared.State.{State}
 use Rattle.model.specs.Step.{stateInUse}
-use Rattle.model.specs.Walk.{Walk, Stop, stateAfter, stopWithin}
-use Rattle.model.specs.Trace.{Tables, tables, Sized, Written, PointWritten, unlessStopped, tableAfter, tablesAfter}
+use Rattle.model.specs.Walk.{Walk, Stop, stateAfter, stopWithin, unlessStopped}
+use Rattle.model.specs.Trace.{Tables, tables, Sized, Written, PointWritten, tableAfter, tablesAfter}
 use Rattle.model.proofs.First.{split}
 
 -- ---- values written from a place on

@@ -14,7 +14,7 @@ use Rattle.model.specs.declared.Traced.{Traced}
 use Rattle.model.specs.declared.Traced.the-variants.{Done, NonFinite}
 use Rattle.model.specs.Step.{kernelInUse, stateInUse}
 use Rattle.model.specs.Schedule.{scheduleInUse}
-use Rattle.model.specs.Walk.{Walk, Stop, stateAfter, stopWithin}
+use Rattle.model.specs.Walk.{Walk, Stop, stateAfter, stopWithin, unlessStopped}
 
 -- the walk of a trace: step k takes draw k
 abbrev pub walkOf : Kernel → RawParams → State → Schedule → List Float → Walk
@@ -53,12 +53,7 @@ pub record Sized (total n : ℕ) (t : Tables) : Type 0 where
   pub factors : length (t .factors) ≡ (total + 1) * n
 
 -- "At 22 [it has written] the points before it (points 0 to N, factors flattened by point); the rest is untouched": point k is the state after k steps,
--- and it is before the stop where no step up to k has stopped.
-abbrev pub unlessStopped : Option Stop → Float → Float → Float
-unlessStopped none written lent = written
-unlessStopped (some stop) written lent = lent
-
--- a table whose entry x is that of point `point x`
+-- and it is before the stop where no step up to k has stopped. A table whose entry x is that of point `point x`
 unfoldable pub tableAfter : Walk → (ℕ → ℕ) → (State → ℕ → Float) → List Float → List Float
 unfolding tabulate stopWithin stateAfter
 tableAfter w point entry lent =

@@ -50,3 +50,8 @@ stopHere k (NonFinite q) = some (record { step = k; quantity = q })
 unfoldable pub stopWithin : Walk → ℕ → Option Stop
 unfolding stateAfter finiteness firstSome
 stopWithin w n = firstSome (λ k. stopHere k (finiteness (stateAfter w k))) n
+
+-- what is written where there is no stop, and what was lent where there is one
+abbrev pub unlessStopped : {A : Type 0} → Option A → Float → Float → Float
+unlessStopped none written lent = written
+unlessStopped (some stop) written lent = lent
