@@ -2,55 +2,42 @@ use borrow.Author.Needs.{needs}
 use Rattle.refusal.proofs.place.Statement.{statement}
 use Rattle.refusal.proofs.place.Tie as tie
 
--- src/lib.rt:62:30
 enum-told : tie.Need-enum-told
 enum-told c = search needs
 
--- src/lib.rt:63:28
 enum-known-refusal : tie.Need-enum-known-refusal
 enum-known-refusal c = search needs
 
--- src/lib.rt:64:41
 enum-known-refusal-2 : tie.Need-enum-known-refusal-2
 enum-known-refusal-2 c = search needs
 
--- src/lib.rt:65:30
 enum-known-refusal-3 : tie.Need-enum-known-refusal-3
 enum-known-refusal-3 c = search needs
 
--- src/lib.rt:66:17
 quantity-number-requires : tie.Need-quantity-number-requires
 quantity-number-requires c κs = search needs
 
--- src/lib.rt:69:38
 enum-known-refusal-4 : tie.Need-enum-known-refusal-4
 enum-known-refusal-4 c = search needs
 
--- src/lib.rt:70:29
 enum-known-refusal-5 : tie.Need-enum-known-refusal-5
 enum-known-refusal-5 c = search needs
 
--- src/lib.rt:58:1
 returns : tie.Need-returns
 returns c = search needs
 
--- src/lib.rt:58:1
 returns-2 : tie.Need-returns-2
 returns-2 c = rw (c .before .refusal .given .1)
 
--- src/lib.rt:58:1
 returns-3 : tie.Need-returns-3
 returns-3 c = rw (c .before .refusal2 .given .1)
 
--- src/lib.rt:58:1
 returns-4 : tie.Need-returns-4
 returns-4 c = rw (c .before .before .refusal3 .given .1, c .quantity-number .ensures)
 
--- src/lib.rt:58:1
 returns-5 : tie.Need-returns-5
 returns-5 c = rw (c .before .refusal4 .given .1)
 
--- src/lib.rt:58:1
 returns-6 : tie.Need-returns-6
 returns-6 c = rw (c .before .refusal5 .given .1)
 

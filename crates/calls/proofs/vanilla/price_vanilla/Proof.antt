@@ -30,23 +30,18 @@ passed c = sym (first-is (c .before .before)) ∙ c .enum-told .given .1
 no-factors : (c : tie.After-no-form) → c .no-form .result .n ≡ 0
 no-factors c = ap (λ (v : Vix). v .n) (c .no-form .ensures)
 
--- src/vanilla.rt:147:9
 prepare-requires : tie.Need-prepare-requires
 prepare-requires c κs = search needs
 
--- src/vanilla.rt:150:36
 strike-questions-requires : tie.Need-strike-questions-requires
 strike-questions-requires c κs = search needs
 
--- src/vanilla.rt:150:11
 or-later-requires : tie.Need-or-later-requires
 or-later-requires c κs = search needs
 
--- src/vanilla.rt:151:26
 enum-known-refusal : tie.Need-enum-known-refusal
 enum-known-refusal c = search needs
 
--- src/vanilla.rt:152:13
 returns : tie.Need-returns
 returns c =
     let asked = c .before .before .before in
@@ -56,22 +51,18 @@ returns c =
 enum-told : tie.Need-enum-told
 enum-told c = search needs
 
--- src/vanilla.rt:159:11
 batch-questions-requires : tie.Need-batch-questions-requires
 batch-questions-requires c κs =
     let given = c .before .before .before .before .before .before in
     let laid = ready (inputs (start given)) (start given .args .seen .now) _ (given .prepare .ensures) (passed (c .before)) .schedule .laid in
     (laid .short, laid .few)
 
--- src/vanilla.rt:160:26
 enum-known-refusal-2 : tie.Need-enum-known-refusal-2
 enum-known-refusal-2 c = search needs
 
--- src/vanilla.rt:161:13
 same-length : tie.Need-same-length
 same-length c = search needs
 
--- src/vanilla.rt:161:13
 returns-2 : tie.Need-returns-2
 returns-2 c =
     let told = c .before .before .before in
@@ -81,15 +72,12 @@ returns-2 c =
 enum-told-2 : tie.Need-enum-told-2
 enum-told-2 c = search needs
 
--- src/vanilla.rt:171:47
 no-form-requires : tie.Need-no-form-requires
 no-form-requires c κs = search needs
 
--- src/vanilla.rt:171:58
 vanilla-payoff-requires : tie.Need-vanilla-payoff-requires
 vanilla-payoff-requires c κs = search needs
 
--- src/vanilla.rt:171:5
 run-batch-requires : tie.Need-run-batch-requires
 run-batch-requires c κs =
     let made = c .before .before in
@@ -100,11 +88,9 @@ run-batch-requires c κs =
     let first = passed (asked .before .before) in
     (handed (inputs (start given)) _ _ prepared first (sym (asked .batch-questions .ensures) ∙ told .enum-told2 .given .1) _ (no-factors made), ready (inputs (start given)) (start given .args .seen .now) _ prepared first .admitted)
 
--- src/vanilla.rt:131:1
 same-length-2 : tie.Need-same-length-2
 same-length-2 c = search needs
 
--- src/vanilla.rt:131:1
 returns-3 : tie.Need-returns-3
 returns-3 c =
     let ran = c .before .before in
