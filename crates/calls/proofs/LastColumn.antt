@@ -68,11 +68,11 @@ module _ {b : Batch} {lent after : List Float} {answer : Run} (answered : answer
   demand : Demand3 b lent after (runAnswer b)
   demand = subst (λ (a : Run). Demand3 b lent after a) answered claim
 
-  pub priced-stopped : (p k : ℕ) (q : Quantity) (steps : ℕ) → answer ≡ run.NonFinite p k q steps → Ensured (priced.Refused (refusal.NonFinite p k q steps) steps)
+  priced-stopped : (p k : ℕ) (q : Quantity) (steps : ℕ) → answer ≡ run.NonFinite p k q steps → Ensured (priced.Refused (refusal.NonFinite p k q steps) steps)
   unfolding pricedRun
   priced-stopped p k q steps e = let ran = sym answered ∙ e in (rw ran, (table, stopped demand p k q steps ran))
 
-  pub priced-done : (laid : Laid (b .schedule)) (steps low : ℕ) → answer ≡ run.Done steps low → {r : Priced} → r ≡ pricedFrom observed payoff (lastSeen after (b .schedule .count)) (b .paths) low steps → Ensured r
+  priced-done : (laid : Laid (b .schedule)) (steps low : ℕ) → answer ≡ run.Done steps low → {r : Priced} → r ≡ pricedFrom observed payoff (lastSeen after (b .schedule .count)) (b .paths) low steps → Ensured r
   unfolding pricedRun
   priced-done laid steps low e made =
       let walked : ℕ → Float = λ p. observation b p (b .schedule .count) in
@@ -81,3 +81,7 @@ module _ {b : Batch} {lent after : List Float} {answer : Run} (answered : answer
         made ∙ same ∙ sym (ap (λ (a : Run). pricedAfter a observed payoff walked (b .paths)) (sym answered ∙ e)),
         (table, rw made (done demand steps low (sym answered ∙ e) observed payoff seen _)),
       )
+
+  pub priced-run : Laid (b .schedule) → (a : Run) → answer ≡ a → {r : Priced} → r ≡ pricedAfter a observed payoff (lastSeen after (b .schedule .count)) (b .paths) → Ensured r
+  priced-run laid (run.NonFinite p k q steps) e made = rw made (priced-stopped p k q steps e)
+  priced-run laid (run.Done steps low) e made = priced-done laid steps low e made

@@ -7,7 +7,7 @@ ghost use Rattle.model.specs.Admitted.{Admitted};
 ghost use Rattle.model.specs.Step.{kernelInUse, stateInUse};
 ghost use Rattle.batch.specs.Batch.{Prepared, batchOf, tableAfter};
 ghost use Rattle.batch.specs.Moments.{underlyingOf, estimatesOf, lastSeen};
-ghost use Rattle.calls.specs.Batches.{styleOf, estimated, pricedFrom, pricedRun, numberIn, placeIn, stepsIn, Claimed};
+ghost use Rattle.calls.specs.Batches.{styleOf, estimated, pricedFrom, pricedAfter, pricedRun, numberIn, placeIn, stepsIn, Claimed};
 use crate::Priced;
 use batch::Observed;
 use batch::Payoff;
@@ -99,6 +99,40 @@ fn priced_from(
     }
 }
 
+// 22 where a step is not finite, and else what is made of the last column.
+fn priced_after(
+    ran: Run,
+    observed: Observed,
+    payoff: Payoff,
+    seen: &[f64],
+    paths: usize,
+    count: usize,
+) -> Priced
+    requires { ⌜ (1 ≤ count) × (length (now seen) ≡ paths * count) ⌝ }
+    ensures { λ r. ⌜ r ≡ pricedAfter ran observed payoff (lastSeen (now (seen .entry)) count) paths ⌝ }
+{
+    match ran {
+        Run::NonFinite {
+            path,
+            step,
+            quantity,
+            steps,
+        } => Priced::Refused {
+            refusal: Refusal::NonFinite {
+                path: path,
+                step: step,
+                quantity: quantity,
+                steps: steps,
+            },
+            steps: steps,
+        },
+        Run::Done {
+            steps,
+            non_positive,
+        } => priced_from(observed, payoff, seen, paths, count, non_positive, steps),
+    }
+}
+
 // The paths of a batch whose questions are passed, and what is made of them.
 pub fn run_batch(
     kernel: Kernel,
@@ -133,32 +167,5 @@ pub fn run_batch(
         draws,
         seen,
     );
-    match ran {
-        Run::NonFinite {
-            path,
-            step,
-            quantity,
-            steps,
-        } => Priced::Refused {
-            refusal: Refusal::NonFinite {
-                path: path,
-                step: step,
-                quantity: quantity,
-                steps: steps,
-            },
-            steps: steps,
-        },
-        Run::Done {
-            steps,
-            non_positive,
-        } => priced_from(
-            observed,
-            payoff,
-            seen,
-            paths,
-            schedule.count,
-            non_positive,
-            steps,
-        ),
-    }
+    priced_after(ran, observed, payoff, seen, paths, schedule.count)
 }
