@@ -22,9 +22,10 @@ use Rattle.model.proofs.Containment.{contains-yes, segment-of, segment-at, segm
 use Rattle.model.proofs.FiniteStates.{walk-sound}
 use Rattle.batch.specs.declared.Run.{Run}
 use Rattle.batch.specs.declared.Run.the-variants.{Done, NonFinite as Refused}
-use Rattle.batch.specs.Batch.{Batch, walkOf, RunStop, onPath, runStop, nonPositivePaths, answerAt, runAnswer, observation, entryAfter, tableAfter}
+use Rattle.walks.specs.Batch.{Batch, walkOf, nonPositivePaths, observation}
+use Rattle.batch.specs.Run.{RunStop, onPath, runStop, answerAt, runAnswer, entryAfter, tableAfter}
 use Rattle.batch.specs.Claim.{OneTo, stateOf, FiniteAt, StepTaken, FiniteBefore, FirstFailure, Answered, Reaches, entry, Written, Demand3}
-use Rattle.batch.proofs.Cells.{row-below}
+use Rattle.walks.proofs.Cells.{row-below}
 use Rattle.batch.proofs.Stops.{runStopAt, entry-new, entry-run, entry-path}
 
 -- ---- 1

@@ -1,10 +1,9 @@
 pub mod Stops
-pub mod Cells
 pub mod Turns
 pub mod Whole
-pub mod Handed
 pub mod Claim
 pub mod Answers
 pub mod Columns
 pub mod Squared
 pub mod Values
+pub mod Groups

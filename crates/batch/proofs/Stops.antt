@@ -7,7 +7,8 @@ use lib.Ieee.{Float}
 use Rattle.model.specs.Schedule.{lastStep}
 use Rattle.model.specs.Walk.{Stop, stopWithin}
 use Rattle.model.proofs.First.{first-more, first-stays, first-none, none-some}
-use Rattle.batch.specs.Batch.{Batch, walkOf, RunStop, runStop, observation, entryAfter}
+use Rattle.walks.specs.Batch.{Batch, walkOf, observation}
+use Rattle.batch.specs.Run.{RunStop, runStop, entryAfter}
 
 abbrev pub runStopAt : ℕ → Stop → RunStop
 runStopAt p x = record { path = p; stop = x }

@@ -1,11 +1,11 @@
 -- The two loops' invariants, over any batch, and what each turn does to them. Assumes nothing.
 use mathlib.Core.Path.{_≡_, refl, sym, _∙_, ap, subst}
-use mathlib.Core.Bool.{Bool, true, false, cond, _||_, or-true, or-false}
+use mathlib.Core.Bool.{Bool, false, cond, _||_}
 use mathlib.Core.Option.{none, some}
 use mathlib.Core.List.{List}
 use mathlib.Core.Logic.{⊎-elim}
 use Prim.Native.Nat.{ℕ, suc, _+_, _*_, _<_, _≤_}
-use native.Mathlib.Nat.{add-zero, suc-mul, zero-mul, mul-le-mul}
+use native.Mathlib.Nat.{suc-mul, zero-mul, mul-le-mul}
 use native.Mathlib.Numerals.{add-one}
 use native.Mathlib.Omega.{arith}
 use lib.Ieee.{Float, nan, le}
@@ -22,8 +22,10 @@ use Rattle.model.proofs.First.{split}
 use Rattle.model.proofs.Stops.{stopAt, stop-goes, stop-ends, stop-none}
 use Rattle.model.proofs.Containment.{Reached, reached-none, reached-open, reached-shut, reached-next, reached-on, reached-behind, reached-ahead, last-most}
 use Rattle.batch.specs.declared.Run.the-variants.{Done, NonFinite as Stopped}
-use Rattle.batch.specs.Batch.{Batch, walkOf, runStop, nonPositiveBy, nonPositivePaths, runAnswer, observation, entryAfter}
-use Rattle.batch.proofs.Cells.{row-below, row-last, Filled, filled-none, filled-more}
+use Rattle.walks.specs.Batch.{Batch, walkOf, nonPositiveBy, nonPositivePaths, observation}
+use Rattle.batch.specs.Run.{runStop, runAnswer, entryAfter}
+use Rattle.walks.proofs.Flags.{one-most}
+use Rattle.walks.proofs.Cells.{row-below, row-last, Filled, filled-none, filled-more}
 use Rattle.batch.proofs.Stops.{runStopAt, run-goes, run-stops, run-none, run-path, entry-new, entry-run, entry-path}
 
 -- at the head of the inner loop: `at` steps of path `path` + 1 are walked, and its row is filled up to `segment`
@@ -134,24 +136,6 @@ turn-first {b} ok {path} {seen} e g =
       long = g;
       filled = filled-none seen (path * b .schedule .count) _;
     }
-
--- a flag that a turn raises, and one that it leaves
-pub raised : (low low′ t : Bool) → t ≡ true → low′ ≡ true → low′ ≡ (low || t)
-raised low low′ t p q = q ∙ sym (rw p (or-true low))
-
-pub left-low : (low low′ t : Bool) → t ≡ false → low′ ≡ low → low′ ≡ (low || t)
-left-low low low′ t p q = q ∙ sym (rw p (or-false low))
-
--- a count that goes up with the flag
-pub count-up : (n n′ : ℕ) (low : Bool) → low ≡ true → n′ ≡ n + 1 → n′ ≡ n + cond low 1 0
-count-up n n′ low p q = rw p q
-
-pub count-left : (n n′ : ℕ) (low : Bool) → low ≡ false → n′ ≡ n → n′ ≡ n + cond low 1 0
-count-left n n′ low p q = rw p (q ∙ sym (add-zero n))
-
-one-most : (t : Bool) → cond t 1 0 ≤ 1
-one-most true = omega arith
-one-most false = omega arith
 
 -- a path that is walked to its end leaves each of its entries written
 entry-done : (b : Batch) → Laid (b .schedule) → (q n j : ℕ) → q < n → runStop b n ≡ none → j < b .schedule .count → (x : Float) → entryAfter b (suc q) (suc j) x ≡ observation b (suc q) (suc j)

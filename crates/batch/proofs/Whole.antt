@@ -7,7 +7,8 @@ use native.Mathlib.Omega.{arith}
 use lib.Ieee.{Float, nan}
 use lib.ListN.{length, getD}
 use Rattle.numeric.proofs.Tables.{is-tabulate}
-use Rattle.batch.specs.Batch.{Batch, entryAfter, tableAfter}
+use Rattle.walks.specs.Batch.{Batch}
+use Rattle.batch.specs.Run.{entryAfter, tableAfter}
 
 pub whole : (b : Batch) (lent seen : List Float) → 1 ≤ b .schedule .count → length lent ≡ b .paths * b .schedule .count → length seen ≡ length lent → ((q j : ℕ) → q < b .paths → j < b .schedule .count → getD seen (q * b .schedule .count + j) nan ≡ entryAfter b (suc q) (suc j) (getD lent (q * b .schedule .count + j) nan)) → seen ≡ tableAfter b lent
 unfolding tableAfter

@@ -18,7 +18,7 @@ use Rattle.model.specs.Walk.{stateAfter}
 use Rattle.model.specs.Admitted.{Sound}
 use Rattle.batch.specs.declared.Run.{Run}
 use Rattle.batch.specs.declared.Run.the-variants.{Done, NonFinite as Refused}
-use Rattle.batch.specs.Batch.{Batch, walkOf, nonPositivePaths}
+use Rattle.walks.specs.Batch.{Batch, walkOf, nonPositivePaths}
 
 -- i is one of 1, .. n: paths, steps and segments count from 1
 pub record OneTo (n i : ℕ) : Type 0 where

@@ -1,3 +1,3 @@
-pub mod Batch
+pub mod Run
 pub mod Moments
 pub mod Claim

@@ -4,12 +4,6 @@ use refusal::Quantity;
 pub mod paths;
 pub mod welford;
 
-// What an observation at a segment's end reads off a state.
-pub enum Observed {
-    Spot,
-    VixSquared,
-}
-
 // How a run of paths ended. Paths and steps count from 1; `steps` is how many were taken, a failing one included.
 pub enum Run {
     Done {

@@ -1,66 +1,24 @@
 // The path and step loops.
 ghost use mathlib.Core.Path.{_≡_};
-ghost use Prim.Native.Nat.{suc, _+_, _*_, _<_, _≤_};
-ghost use lib.ListN.{length, getD};
-ghost use lib.Ieee.{nan};
 ghost use Rattle.model.specs.Step.{kernelInUse, stateInUse};
 ghost use Rattle.model.specs.Admitted.{Admitted};
-ghost use Rattle.vix.specs.Form.{vixInUse};
-ghost use Rattle.batch.specs.Batch.{Prepared, drawPlace, drawOf, observationOf, batchOf, runAnswer, tableAfter};
+ghost use Rattle.walks.specs.Batch.{batchOf};
+ghost use Rattle.batch.specs.Run.{Prepared, runAnswer, tableAfter};
 ghost use Rattle.batch.specs.Claim.{Demand3};
-use crate::Observed;
 use crate::Run;
+use groups::Together;
 use model::Finiteness;
 use model::Kernel;
 use model::RawParams;
 use model::Schedule;
 use model::State;
-use model::draws;
 use model::scheme;
 use vix::Vix;
-
-// The draw that a path takes after `at` of its `total` draws, which begin at place `first`. The
-// reader is lent the draws of this path alone.
-fn path_draw(draws: &[f64], first: usize, total: usize, at: usize) -> f64
-    requires { ⌜ (at < total) × (first + total ≤ length (now draws)) ⌝ }
-    ensures { λ r. ⌜ r ≡ getD (now (draws .entry)) (first + at) nan ⌝ }
-{
-    let end = first + total;
-    draws::take_draw(&draws[first..end], at)
-}
-
-// The draw of step `at` + 1 of path `path` + 1. In a mirrored batch two paths share their draws, and
-// the second has them negated.
-fn draw_at(mirrored: bool, draws: &[f64], total: usize, path: usize, at: usize) -> f64
-    requires { ⌜ at < total ⌝ }
-    requires { ⌜ drawPlace mirrored total (suc path) (suc total) ≤ length (now draws) ⌝ }
-    ensures { λ r. ⌜ r ≡ drawOf mirrored (now (draws .entry)) total (suc path) (suc at) ⌝ }
-{
-    if mirrored {
-        let g = path_draw(draws, path / 2 * total, total, at);
-        if path % 2 == 1 {
-            return -g;
-        }
-        return g;
-    }
-    path_draw(draws, path * total, total, at)
-}
-
-fn observe(observed: Observed, form: Vix, s: State) -> f64
-    requires { ⌜ form .n ≤ 10 ⌝ }
-    ensures { λ r. ⌜ r ≡ observationOf observed (vixInUse form) (stateInUse (form .n) s) ⌝ }
-{
-    match observed {
-        Observed::Spot => s.spot,
-        Observed::VixSquared => {
-            let factors = s.factors;
-            vix::raw_squared(form, factors)
-        }
-    }
-}
+use walks::Observed;
 
 // Every path in turn, step by step, up to the first step that is not finite. `seen` has a row a path
-// and a column a segment.
+// and a column a segment. Four paths at a time are walked side by side where that is sure to give what
+// the plain loop gives; a group of which that cannot be said goes through the plain loop.
 pub fn run_paths(
     k: Kernel,
     p: RawParams,
@@ -89,14 +47,41 @@ pub fn run_paths(
     let mut steps: u64 = 0;
     let mut non_positive: u64 = 0;
     let mut path: usize = 0;
+    let mut next_group: usize = 0;
     'paths: while path < paths {
+        if next_group <= path && path + 4 <= paths {
+            let mut rows = [0.0; 256];
+            match groups::walk_four(
+                k,
+                p,
+                start,
+                sched,
+                observed,
+                form,
+                mirrored,
+                path,
+                draws,
+                &mut rows[..],
+            ) {
+                Together::Walked { non_positive: fell } => {
+                    groups::write_rows(&rows[..4 * count], path * count, seen);
+                    steps += 4 * (total as u64);
+                    non_positive += fell;
+                    path += 4;
+                    continue 'paths;
+                }
+                Together::Unsure => {
+                    next_group = path + 4;
+                }
+            }
+        }
         let mut s = start;
         let mut rates = first;
         let mut segment: usize = 0;
         let mut at: usize = 0;
         let mut low = false;
         while at < total {
-            let g = draw_at(mirrored, draws, total, path, at);
+            let g = walks::draw_at(mirrored, draws, total, path, at);
             s = scheme::step(k, p, s, g, rates);
             at += 1;
             steps += 1;
@@ -117,7 +102,7 @@ pub fn run_paths(
                 low = true;
             }
             if at == sched.last[segment] {
-                seen[path * count + segment] = observe(observed, form, s);
+                seen[path * count + segment] = walks::observe(observed, form, s);
                 segment += 1;
                 rates = scheme::rates_at(k, sched, segment);
             }

@@ -18,8 +18,8 @@ use Rattle.doors.specs.Doors.{ModelReady}
 use Rattle.model.specs.Schedule.{scheduleOf}
 use Rattle.vix.specs.declared.Vix.{Vix}
 use Rattle.vix.specs.Form.{vixInUse}
-use Rattle.batch.specs.declared.Observed.{Observed}
-use Rattle.batch.specs.Batch.{Batch, drawOf, observationOf, batchOf}
+use Rattle.walks.specs.declared.Observed.{Observed}
+use Rattle.walks.specs.Batch.{Batch, drawOf, observationOf, batchOf}
 use Rattle.calls.specs.declared.Priced.{Priced}
 use Rattle.calls.specs.declared.Priced.the-variants as priced
 use Rattle.refusal.specs.Questions.{onceAsked, writtenOnceAsked}

@@ -11,11 +11,12 @@ use Rattle.refusal.specs.declared.Refusal.{Refusal}
 use Rattle.refusal.specs.Refusal.{quantityNumber, numberOf}
 use Rattle.refusal.specs.Questions.{firstNo, onceAsked}
 use Rattle.refusal.proofs.Laws.{Each, each-all, first-has}
-use Rattle.batch.specs.declared.Observed.{Observed}
-use Rattle.batch.specs.declared.Observed.the-variants.{Spot, VixSquared}
+use Rattle.walks.specs.declared.Observed.{Observed}
+use Rattle.walks.specs.declared.Observed.the-variants.{Spot, VixSquared}
 use Rattle.batch.specs.declared.Payoff.{Payoff}
 use Rattle.batch.specs.declared.Run.the-variants as run
-use Rattle.batch.specs.Batch.{Batch, runAnswer}
+use Rattle.walks.specs.Batch.{Batch}
+use Rattle.batch.specs.Run.{runAnswer}
 use Rattle.batch.specs.Claim.{Demand3, IsRefused}
 use Rattle.batch.specs.Moments.{squaredQuestions, underlyingOf, estimatesOf, notFinite}
 use Rattle.calls.specs.declared.Priced.{Priced}

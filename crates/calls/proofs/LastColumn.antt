@@ -12,12 +12,13 @@ use Rattle.refusal.specs.declared.Refusal.the-variants as refusal
 use Rattle.refusal.specs.Questions.{firstNo, each, onceAsked}
 use Rattle.model.specs.Laid.{Laid}
 use Rattle.batch.specs.declared.Estimates.{Estimates}
-use Rattle.batch.specs.declared.Observed.{Observed}
-use Rattle.batch.specs.declared.Observed.the-variants.{Spot, VixSquared}
+use Rattle.walks.specs.declared.Observed.{Observed}
+use Rattle.walks.specs.declared.Observed.the-variants.{Spot, VixSquared}
 use Rattle.batch.specs.declared.Payoff.{Payoff}
 use Rattle.batch.specs.declared.Run.{Run}
 use Rattle.batch.specs.declared.Run.the-variants as run
-use Rattle.batch.specs.Batch.{Batch, runAnswer, observation, tableAfter}
+use Rattle.walks.specs.Batch.{Batch, observation}
+use Rattle.batch.specs.Run.{runAnswer, tableAfter}
 use Rattle.batch.specs.Claim.{Demand3}
 use Rattle.batch.specs.Moments.{underlyingOf, squaredQuestions, estimatesOf, lastSeen}
 use Rattle.batch.proofs.Values.{SameUpTo, estimates-same, squared-same}

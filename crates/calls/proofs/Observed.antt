@@ -9,7 +9,7 @@ use Rattle.model.specs.declared.Finiteness.the-variants.{Finite, NonFinite}
 use Rattle.model.specs.Laid.{Laid}
 use Rattle.batch.specs.declared.Run.{Run}
 use Rattle.batch.specs.declared.Run.the-variants as run
-use Rattle.batch.specs.Batch.{Batch, observation}
+use Rattle.walks.specs.Batch.{Batch, observation}
 use Rattle.batch.specs.Claim.{OneTo, FiniteAt, IsRefused, Demand3}
 use Rattle.batch.specs.Moments.{lastSeen}
 use Rattle.batch.proofs.Values.{SameUpTo}

@@ -18,7 +18,8 @@ use Rattle.model.specs.declared.Kernel.{Kernel}
 use Rattle.model.specs.declared.Schedule.{Schedule}
 use Rattle.model.specs.Laid.{Laid}
 use Rattle.vix.specs.declared.Vix.{Vix}
-use Rattle.batch.specs.Batch.{Prepared, drawsNeeded}
+use Rattle.walks.specs.Batch.{drawsNeeded}
+use Rattle.batch.specs.Run.{Prepared}
 use Rattle.calls.specs.Batches.{pathsPass, batchQuestions}
 
 -- paths × steps, or paths × segments

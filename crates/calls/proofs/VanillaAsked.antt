@@ -13,10 +13,11 @@ use Rattle.doors.specs.declared.ModelDoor.{ModelDoor}
 use Rattle.doors.specs.Questions.{modelQuestions}
 use Rattle.doors.specs.Doors.{ModelReady, ModelPrepared}
 use Rattle.vix.specs.declared.Vix.{Vix}
-use Rattle.batch.specs.declared.Observed.the-variants.{Spot}
+use Rattle.walks.specs.declared.Observed.the-variants.{Spot}
 use Rattle.batch.specs.declared.Payoff.{Payoff}
 use Rattle.batch.specs.declared.Payoff.the-variants.{Vanilla}
-use Rattle.batch.specs.Batch.{Batch, Prepared, batchOf, tableAfter}
+use Rattle.walks.specs.Batch.{Batch, batchOf}
+use Rattle.batch.specs.Run.{Prepared, tableAfter}
 use Rattle.calls.specs.declared.Priced.{Priced}
 use Rattle.calls.specs.declared.Priced.the-variants as priced
 use Rattle.calls.specs.Batches.{strikeQuestions, batchQuestions, styleOf, pricedRun, numberIn, placeIn, stepsIn, Claimed}

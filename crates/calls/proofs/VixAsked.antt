@@ -22,9 +22,10 @@ use Rattle.doors.specs.Doors.{ModelReady, ModelPrepared}
 use Rattle.vix.specs.declared.Vix.{Vix}
 use Rattle.vix.specs.Form.{vixInUse}
 use Rattle.vix.specs.Build.{vixOf}
-use Rattle.batch.specs.declared.Observed.the-variants.{VixSquared}
+use Rattle.walks.specs.declared.Observed.the-variants.{VixSquared}
 use Rattle.batch.specs.declared.Payoff.{Payoff}
-use Rattle.batch.specs.Batch.{Batch, Prepared, observationOf, batchOf, tableAfter}
+use Rattle.walks.specs.Batch.{Batch, observationOf, batchOf}
+use Rattle.batch.specs.Run.{Prepared, tableAfter}
 use Rattle.calls.specs.declared.FormDoor.{FormDoor}
 use Rattle.calls.specs.declared.Priced.{Priced}
 use Rattle.calls.specs.declared.Priced.the-variants as priced

@@ -23,13 +23,14 @@ use Rattle.model.specs.Schedule.{scheduleOf}
 use Rattle.doors.specs.Model.{Model}
 use Rattle.batch.specs.declared.Style.{Style}
 use Rattle.batch.specs.declared.Style.the-variants.{Call, Put}
-use Rattle.batch.specs.declared.Observed.{Observed}
-use Rattle.batch.specs.declared.Observed.the-variants.{Spot, VixSquared}
+use Rattle.walks.specs.declared.Observed.{Observed}
+use Rattle.walks.specs.declared.Observed.the-variants.{Spot, VixSquared}
 use Rattle.batch.specs.declared.Payoff.{Payoff}
 use Rattle.batch.specs.declared.Estimates.{Estimates}
 use Rattle.batch.specs.declared.Run.{Run}
 use Rattle.batch.specs.declared.Run.the-variants as run
-use Rattle.batch.specs.Batch.{Batch, drawOf, drawsNeeded, observation, runAnswer}
+use Rattle.walks.specs.Batch.{Batch, drawOf, drawsNeeded, observation}
+use Rattle.batch.specs.Run.{runAnswer}
 use Rattle.batch.specs.Claim.{Demand3, SomeStepFails, FirstFailure}
 use Rattle.batch.specs.Moments.{underlyingOf, squaredQuestions, estimatesOf, notFinite}
 use Rattle.calls.specs.declared.Priced.{Priced}

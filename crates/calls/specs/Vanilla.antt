@@ -11,9 +11,10 @@ use Rattle.refusal.specs.Questions.{Question, firstNo, onceAsked, writtenOnceAs
 use Rattle.model.specs.Schedule.{scheduleOf}
 use Rattle.doors.specs.Model.{Model}
 use Rattle.doors.specs.Questions.{modelQuestions}
-use Rattle.batch.specs.declared.Observed.the-variants.{Spot}
+use Rattle.walks.specs.declared.Observed.the-variants.{Spot}
 use Rattle.batch.specs.declared.Payoff.the-variants.{Vanilla}
-use Rattle.batch.specs.Batch.{Batch, tableAfter}
+use Rattle.walks.specs.Batch.{Batch}
+use Rattle.batch.specs.Run.{tableAfter}
 use Rattle.calls.specs.declared.Priced.{Priced}
 use Rattle.calls.specs.Batches.{strikeQuestions, batchQuestions, styleOf, batchFor, refusedAfter, pricedRun, Claimed}
 

@@ -17,10 +17,11 @@ use Rattle.doors.specs.Questions.{modelQuestions}
 use Rattle.vix.specs.declared.Vix.{Vix}
 use Rattle.vix.specs.Form.{rawSquared}
 use Rattle.vix.specs.Build.{vixOf}
-use Rattle.batch.specs.declared.Observed.the-variants.{VixSquared}
+use Rattle.walks.specs.declared.Observed.the-variants.{VixSquared}
 use Rattle.batch.specs.declared.Payoff.{Payoff}
 use Rattle.batch.specs.declared.Payoff.the-variants.{Future, Vanilla}
-use Rattle.batch.specs.Batch.{Batch, tableAfter}
+use Rattle.walks.specs.Batch.{Batch}
+use Rattle.batch.specs.Run.{tableAfter}
 use Rattle.calls.specs.declared.Priced.{Priced}
 use Rattle.calls.specs.declared.VixPayoff.{VixPayoff}
 use Rattle.calls.specs.Batches.{strikeQuestions, batchQuestions, styleOf, batchFor, refusedAfter, pricedRun, Claimed}

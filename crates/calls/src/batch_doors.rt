@@ -3,7 +3,7 @@
 ghost use mathlib.Core.Path.{_≡_};
 ghost use Prim.Native.Nat.{_≤_};
 ghost use Rattle.refusal.specs.Questions.{firstNo};
-ghost use Rattle.batch.specs.Batch.{drawsNeeded};
+ghost use Rattle.walks.specs.Batch.{drawsNeeded};
 ghost use Rattle.calls.specs.Batches.{strikeQuestions, pathsPass, batchQuestions};
 use decimal::Decimal;
 use model::Schedule;

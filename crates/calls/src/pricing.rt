@@ -5,11 +5,11 @@ ghost use lib.ListN.{length};
 ghost use Rattle.decimal.specs.Decimal.{value};
 ghost use Rattle.model.specs.Admitted.{Admitted};
 ghost use Rattle.model.specs.Step.{kernelInUse, stateInUse};
-ghost use Rattle.batch.specs.Batch.{Prepared, batchOf, tableAfter};
+ghost use Rattle.walks.specs.Batch.{batchOf};
+ghost use Rattle.batch.specs.Run.{Prepared, tableAfter};
 ghost use Rattle.batch.specs.Moments.{underlyingOf, estimatesOf, lastSeen};
 ghost use Rattle.calls.specs.Batches.{styleOf, estimated, pricedFrom, pricedAfter, pricedRun, numberIn, placeIn, stepsIn, Claimed};
 use crate::Priced;
-use batch::Observed;
 use batch::Payoff;
 use batch::Run;
 use batch::Style;
@@ -23,6 +23,7 @@ use model::State;
 use refusal::Outcome;
 use refusal::Refusal;
 use vix::Vix;
+use walks::Observed;
 
 pub fn vanilla_payoff(put: bool, strike: Decimal) -> Payoff
     ensures { λ r. ⌜ r ≡ Payoff.Vanilla (styleOf put) (value strike) ⌝ }

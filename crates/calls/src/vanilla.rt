@@ -6,11 +6,11 @@ ghost use Rattle.calls.specs.Vanilla.{vanillaInputs, vanillaCall, vanill
 use crate::Priced;
 use crate::batch_doors;
 use crate::pricing;
-use batch::Observed;
 use decimal::Decimal;
 use model::Params;
 use model::Segments;
 use refusal::Outcome;
+use walks::Observed;
 
 // A vanilla observes the spot, so no form of the VIX is looked at.
 pub fn price_vanilla(

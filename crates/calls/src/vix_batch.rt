@@ -10,12 +10,12 @@ use crate::VixPayoff;
 use crate::batch_doors;
 use crate::form;
 use crate::pricing;
-use batch::Observed;
 use batch::Payoff;
 use decimal::Decimal;
 use model::Params;
 use model::Segments;
 use refusal::Outcome;
+use walks::Observed;
 
 // Questions 18 and 1 of the strike, which a future has not.
 fn payoff_questions(payoff: VixPayoff) -> Outcome

@@ -14,3 +14,4 @@ pub mod Monotone
 pub mod Bounds
 pub mod Tables
 pub mod Above
+pub mod Normal

@@ -1,5 +1,5 @@
 -- Bit patterns of doubles. Assumes nothing.
-use mathlib.Core.Path.{_≡_, sym, ap, _∙_, subst}
+use mathlib.Core.Path.{_≡_, refl, sym, ap, _∙_, subst}
 use Prim.Native.Nat.{ℕ, _*_, _%_, _^_, _≤_}
 use native.Mathlib.Omega.{arith}
 use mathlib.Core.Bool.{Bool, false, not, true≢false}
@@ -8,6 +8,7 @@ use lib.Arith.{le→nltb}
 use lib.Ieee.{Float, nan, inf, fin, binary64, fits, isNan, nanBits, toBits, ne}
 use lib.Ieee.Compare.{nan-differs}
 use lib.Ieee.Bits.{ofBits-toBits, nanBits-is, nanBits-above}
+use Rattle.numeric.specs.Double.{bitsOf}
 
 -- up to the infinity's pattern there is no NaN
 pub no-nan : (n : ℕ) → n ≤ 2047 * 2 ^ 52 → T (not (nanBits binary64 n))
@@ -29,3 +30,16 @@ at-most-inf x F n =
     let b = toBits binary64 x in
     nltb→le (2047 * 2 ^ 52) (b % 2 ^ 63)
     (subst (λ (t : Bool). T (not t)) (sym (ap isNan (ofBits-toBits binary64 x F)) ∙ sym (nanBits-is binary64 b) ∙ nanBits-above binary64 b) n)
+
+-- the pattern of a number
+pub bits-are : (x : Float) → T (not (isNan x)) → bitsOf x ≡ toBits binary64 x
+unfolding isNan
+bits-are nan n = absurd n
+bits-are (inf s) n = refl
+bits-are (fin s m e) n = refl
+
+-- a pattern above 0 is a number's
+pub bits-of-number : (x : Float) → 1 ≤ bitsOf x → toBits binary64 x ≡ bitsOf x
+bits-of-number nan h = absurd (omega arith)
+bits-of-number (inf s) h = refl
+bits-of-number (fin s m e) h = refl

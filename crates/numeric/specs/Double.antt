@@ -1,7 +1,8 @@
 -- Doubles are the values of IEEE 754's binary64, as `lib.Ieee` defines them. Short names for their operations, rounded once each, for their constants, and for Rust's `is_finite`, `abs` and `max`. Definitions only.
 use mathlib.Core.Bool.{true, false, cond}
 use lib.IntN.{pos}
-use lib.Ieee.{Float, nan, inf, fin, binary64, add, sub, mul, div, lt}
+use Prim.Native.Nat.{ℕ}
+use lib.Ieee.{Float, nan, inf, fin, binary64, toBits, add, sub, mul, div, lt}
 -- neither a NaN nor an infinity
 pub use lib.Ieee.Scale.{finite}
 
@@ -27,6 +28,12 @@ plusZero = fin false 0 (pos 0)
 
 abbrev pub minusZero : Float
 minusZero = fin true 0 (pos 0)
+
+-- ---- the bit pattern of a number; that of a NaN is not known, and 0 stands for it
+abbrev pub bitsOf : Float → ℕ
+bitsOf nan = 0
+bitsOf (inf s) = toBits binary64 (inf s)
+bitsOf (fin s m e) = toBits binary64 (fin s m e)
 
 -- ---- the same size without the sign; a NaN stays a NaN
 abbrev pub magnitude : Float → Float

@@ -1,12 +1,16 @@
 // What the layers above need of a double beyond its operators: the square root, and Rust's is_finite,
 // abs and max.
 ghost use mathlib.Core.Path.{_≡_};
+ghost use mathlib.Core.Bool.{true};
 ghost use lib.Ieee.{binary64};
-ghost use Rattle.numeric.specs.Double.{finite, magnitude, positivePart, larger};
+ghost use Rattle.numeric.specs.Double.{finite, bitsOf, magnitude, positivePart, larger};
 ghost use Rattle.numeric.specs.Root.{root};
 
 mod nearest;
 mod root;
+
+// The weight of the exponent field, which is the digit that a normal number's pattern leaves out.
+const HIDDEN: u64 = 0x10_0000_0000_0000;
 
 // Rust's x.sqrt(): the double nearest to the exact root. It is decided by the exponent field; with
 // the sign above it, a field of 2048 or more is that of a number with a minus sign.
@@ -23,6 +27,37 @@ pub fn sqrt(x: f64) -> f64
         2047 => x,
         _ => root::negative(bits),
     }
+}
+
+// Whether g is seen to be the root of x, a normal number above zero. A `false` says nothing.
+pub fn is_root(x: f64, g: f64) -> bool
+    ensures { λ r. ⌜ (r ≡ true → g ≡ root binary64 x) ⌝ }
+{
+    let bits = bits_of(x);
+    let field = bits / HIDDEN;
+    if field < 1 {
+        return false;
+    }
+    if 2046 < field {
+        return false;
+    }
+    let e = field + 1073;
+    let m = (bits % HIDDEN + HIDDEN) * (1 + e % 2);
+    let guess = bits_of(g);
+    if guess / HIDDEN != e / 2 - 25 {
+        return false;
+    }
+    nearest::is_nearest(m, guess % HIDDEN + HIDDEN)
+}
+
+// The bits of a number, and 0 for a NaN, whose bits are not known.
+pub fn bits_of(x: f64) -> u64
+    ensures { λ r. ⌜ r ≡ bitsOf x ⌝ }
+{
+    if x != x {
+        return 0;
+    }
+    f64::to_bits(x)
 }
 
 // Rust's x.is_finite(): neither a NaN nor an infinity.

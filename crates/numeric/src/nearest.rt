@@ -13,21 +13,30 @@ pub struct Wide {
     pub low: u64,
 }
 
-// Whether s is that number: m * 2^52 and the square of s are then no more than s apart. Where their
-// high parts are more than 3 apart, s is not. Else both are compared less (high - 3) * 2^52.
+// Whether s is that number: m * 2^52 and the square of s are then no more than s apart. With
+// s = a * 2^27 + b the square is a * a * 2^54 + a * b * 2^28 + b * b, and it is taken off m * 2^52 from
+// the top. Each difference is shifted up, so that it is below its bound where s is the number, and
+// wraps around to far above it where the square is too large. y is m * 2^52 - s * s + s.
 pub fn is_nearest(m: u64, s: u64) -> bool
     requires { ⌜ Significand m ⌝ }
     requires { ⌜ Digits s ⌝ }
     ensures { λ r. ⌜ r ≡ isNearest m s ⌝ }
 {
-    let square = square(s);
-    let apart = wrapping_sub_u64(m + 3, square.high);
-    if apart > 6 {
+    let a = s >> 27;
+    let b = s % 0x800_0000;
+    let aa = a * a;
+    let ab = a * b;
+    let bb = b * b;
+    let c = wrapping_sub_u64(m + 2, 4 * aa);
+    if c >= 0x8000_0000 {
         return false;
     }
-    let number = apart * TWO_52;
-    let squared = 3 * TWO_52 + square.low;
-    squared < number + s && number <= squared + s
+    let w = wrapping_sub_u64(c * 0x100_0000 + 0x200_0000, ab);
+    if w >= 0x1000_0000 {
+        return false;
+    }
+    let y = wrapping_sub_u64(w * 0x1000_0000 + s, 0x40_0000_0000_0000 + bb);
+    1 <= y && y <= 2 * s
 }
 
 // The nearest number is the s with part(s - 1) < m <= part(s), found by halves.

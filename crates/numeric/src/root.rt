@@ -7,10 +7,8 @@ ghost use mathlib.Core.Bool.{false};
 ghost use lib.Ieee.{binary64, units, ofBits};
 ghost use Rattle.numeric.specs.Root.{root, rootUnits};
 ghost use Rattle.numeric.specs.Step.{Digits};
+use crate::HIDDEN;
 use crate::nearest;
-
-// The weight of the exponent field, which is the digit that a normal number's pattern leaves out.
-const HIDDEN: u64 = 0x10_0000_0000_0000;
 
 // The root of +0 or of a subnormal number: its digits are shifted up until the leading one stands
 // where a normal number has it.

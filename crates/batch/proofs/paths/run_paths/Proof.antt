@@ -1,14 +1,17 @@
 -- `batch::paths::run_paths` meets its contract. The loops' invariants and what a turn does to them are in `proofs/Turns.antt`, what the code is handed in `proofs/Handed.antt`, and the claim in `proofs/Claim.antt`.
 -- Assumes nothing.
-use mathlib.Core.Path.{_≡_, sym, _∙_, ap}
+use mathlib.Core.Path.{_≡_, refl, sym, _∙_, ap, subst}
 use mathlib.Core.Bool.{_||_}
+use mathlib.Core.List.{List}
 use mathlib.Core.Logic.{⊎-elim}
-use Prim.Native.Nat.{suc, _-_, _<_}
+use Prim.Native.Nat.{ℕ, suc, _+_, _*_, _-_, _<_, _≤_}
+use native.Mathlib.Nat.{le-trans, le-of-eq}
 use native.Mathlib.Omega.{arith}
+use lib.Dec.{T, leb→le}
 use borrow.Author.Needs.{needs}
-use lib.ListN.{length, getD}
-use lib.Ieee.{nan, le}
-use lib.Seq.{getD-take}
+use lib.ListN.{length, getD, take}
+use lib.Ieee.{Float, nan, le}
+use lib.Seq.{getD-take, length-take-le}
 use Rattle.numeric.specs.Double.{plusZero}
 use Rattle.model.specs.declared.Finiteness.the-variants.{Finite}
 use Rattle.model.specs.Laid.{Laid}
@@ -17,30 +20,34 @@ use Rattle.model.specs.Schedule.{lastStep, dtAt, sqrtDtAt, scheduleInUse}
 use Rattle.model.specs.Step.{step, finiteness, kernelInUse, stateInUse}
 use Rattle.model.proofs.Laws.{rates-own}
 use Rattle.model.proofs.Containment.{laid-in-use, reached-open}
-use Rattle.batch.specs.Batch.{batchOf, drawOf}
+use Rattle.walks.specs.Batch.{batchOf, drawOf}
 use Rattle.numeric.proofs.Doubles.{zero-is}
-use Rattle.batch.proofs.Handed.{finite-in-use, draws-within, observed-in-use, step-in-use}
-use Rattle.batch.proofs.Turns.{Inner, Outer, Small, small, turn-first, next-state, raised, left-low, count-up, count-left, turn-on, turn-write, path-first, path-next, run-ends, entries-end, run-done, entries-done}
+use Rattle.walks.proofs.Flags.{raised, left-low, count-up, count-left}
+use Rattle.walks.proofs.Handed.{finite-in-use, draws-within, observed-in-use, step-in-use}
+use Rattle.batch.proofs.Turns.{Inner, Outer, Small, small, turn-first, next-state, turn-on, turn-write, path-first, path-next, run-ends, entries-end, run-done, entries-done}
+use Rattle.groups.specs.declared.Together.{Together}
+use Rattle.groups.specs.Group.{Walks, FourWalked}
+use Rattle.batch.proofs.Groups.{SmallGroup, small-group, path-four}
 use Rattle.batch.proofs.Whole.{whole}
 use Rattle.batch.proofs.Claim.{with-claim}
 use Rattle.batch.proofs.paths.run_paths.Statement.{statement}
 use Rattle.batch.proofs.paths.run_paths.Tie as tie
 
 abbrev Inv-loop : tie.InvT-loop
-Inv-loop k p start observed form mirrored paths draws seen₀ sched total count first failed₀ steps₀ non-positive path s₀ rates₀ segment₀ at₀ low₀ seen failed steps s rates segment at low =
+Inv-loop k p start observed form mirrored paths draws seen₀ sched total count first failed₀ steps₀ non-positive path next-group s₀ rates₀ segment₀ at₀ low₀ seen failed steps s rates segment at low =
     Inner (batchOf k p start sched observed form mirrored paths draws) path seen₀ seen steps segment at (stateInUse (k .n) s) low
     × RatesOf k (getD (sched .dt) segment nan) (getD (sched .«sqrt_dt») segment nan) rates
 
 abbrev μ-loop : tie.MeasureT-loop
-μ-loop k p start observed form mirrored paths draws seen₀ sched total count first failed₀ steps₀ non-positive path s₀ rates₀ segment₀ at₀ low₀ seen failed steps s rates segment at low =
+μ-loop k p start observed form mirrored paths draws seen₀ sched total count first failed₀ steps₀ non-positive path next-group s₀ rates₀ segment₀ at₀ low₀ seen failed steps s rates segment at low =
     total - at
 
 abbrev Inv-paths : tie.InvT-paths
-Inv-paths k p start observed form mirrored paths draws seen₀ sched total count first failed₀ steps₀ non-positive₀ path₀ seen failed steps non-positive path =
+Inv-paths k p start observed form mirrored paths draws seen₀ sched total count first failed₀ steps₀ non-positive₀ path₀ next-group₀ seen failed steps non-positive path next-group =
     Outer (batchOf k p start sched observed form mirrored paths draws) seen₀ seen steps non-positive path
 
 abbrev μ-paths : tie.MeasureT-paths
-μ-paths k p start observed form mirrored paths draws seen₀ sched total count first failed₀ steps₀ non-positive₀ path₀ seen failed steps non-positive path =
+μ-paths k p start observed form mirrored paths draws seen₀ sched total count first failed₀ steps₀ non-positive₀ path₀ next-group₀ seen failed steps non-positive path next-group =
     paths - path
 
 -- ---- the places of the code that the answers name: the entry, a turn of the path loop, a turn of the step loop, the step taken, and the flag set after it
@@ -58,13 +65,13 @@ abbrev Stepped : Type 0
 Stepped = tie.After-step Inv-loop μ-loop Inv-paths μ-paths
 
 abbrev Flagged : Type 0
-Flagged = tie.Joined1 Inv-loop μ-loop Inv-paths μ-paths
+Flagged = tie.Joined3 Inv-loop μ-loop Inv-paths μ-paths
 
 abbrev entry : Path → Entry
 entry c = c .before .before .before .before .before
 
 abbrev path-of : Turn → Path
-path-of c = c .before .before
+path-of c = c .before .before .before
 
 abbrev turn-of : Stepped → Turn
 turn-of c = c .before .before
@@ -83,11 +90,127 @@ rates-at-requires c κs = c .before .before .pre .0 .few
 paths-holds : tie.Need-paths-holds Inv-loop μ-loop Inv-paths μ-paths
 paths-holds c = path-first (laid-at (c .before .before .before)) (c .before .before .before .pre .0 .rows)
 
+-- ---- a group of four paths
+
+within : (c : tie.Then2 Inv-loop μ-loop Inv-paths μ-paths) → c .before .before .before .paths .path + 4 ≤ entry (c .before .before) .args .paths
+within c = leb→le _ _ (subst T (sym (c .if2 .taken)) tt)
+
+add-if2 : tie.Need-add-if2 Inv-loop μ-loop Inv-paths μ-paths
+add-if2 c = omega (arith, c .before .paths-test .taken, entry (c .before) .pre .0 .most)
+
+slice-aggregate-walk-four : tie.Need-slice-aggregate-walk-four Inv-loop μ-loop Inv-paths μ-paths
+slice-aggregate-walk-four c = refl
+
+walk-four-requires : tie.Need-walk-four-requires Inv-loop μ-loop Inv-paths μ-paths
+walk-four-requires c κs =
+    let path : Path = c .before .before .before in
+    let given = entry path .pre .0 in
+    record {
+      few = given .few;
+      form = given .form;
+      laid = given .laid;
+      most = omega (arith, path .paths-test .taken, given .most);
+      drawn = λ l h. rw (given .drawn) (draws-within (entry path .args .mirrored) _ _ _ (given .pairs) (omega (arith, within (c .before))));
+      rows-long = refl;
+    }
+
+enum-known-fell : tie.Need-enum-known-fell Inv-loop μ-loop Inv-paths μ-paths
+enum-known-fell c = search needs
+
+-- the group, once it is walked, and what was written of it
+abbrev Group : Type 0
+Group = tie.After-known-told Inv-loop μ-loop Inv-paths μ-paths
+
+abbrev path-of-group : Group → Path
+path-of-group c = c .before .before .before .before .before .before .before .before
+
+abbrev group-of : tie.After-slice-known2 Inv-loop μ-loop Inv-paths μ-paths → Group
+group-of c = c .before .before .before .before .before
+
+module _ (c : Group) where
+  abbrev given-group : Entry
+  given-group = entry (path-of-group c)
+
+  abbrev rows : List Float
+  rows = c .before .before .before .before .walk-four .last .1 .1 .1 .1 .1 .1 .1 .1 .1 .0
+
+  group-within : path-of-group c .before .paths .path + 4 ≤ given-group .args .paths
+  group-within = within (c .before .before .before .before .before .before)
+
+  -- its numbers
+  group-small : SmallGroup (path-of-group c .before .paths .path) (given-group .args .t4 .total) (given-group .args .t4 .count) (length (path-of-group c .before .paths .seen))
+  group-small =
+      let given = given-group .pre .0 in
+      small-group _ _ _ _ _ (given .most) (given .laid .short) (given .laid .few) group-within (path-of-group c .before .paths .inv .long)
+
+  -- and its walks
+  walked : FourWalked (batchOf (given-group .args .k) (given-group .args .p) (given-group .args .start) (given-group .args .t4) (given-group .args .observed) (given-group .args .form) (given-group .args .mirrored) (given-group .args .paths) (given-group .args .draws .now)) (path-of-group c .before .paths .path) rows (c .before .fell .given .0 .0)
+  walked =
+      let e = given-group in
+      subst (λ (r : Together). Walks (batchOf (e .args .k) (e .args .p) (e .args .start) (e .args .t4) (e .args .observed) (e .args .form) (e .args .mirrored) (e .args .paths) (e .args .draws .now)) (path-of-group c .before .paths .path) rows r)
+      (c .before .fell .given .1) (c .before .before .before .before .walk-four .ensures .1 (e .args .paths))
+
+  rows-fit : 4 * given-group .args .t4 .count ≤ length rows
+  rows-fit = le-trans (group-small .rows) (le-of-eq (sym (c .before .before .before .before .walk-four .ensures .0)))
+
+  part-long : length (take (4 * given-group .args .t4 .count) rows) ≡ 4 * given-group .args .t4 .count
+  part-long = length-take-le _ _ rows-fit
+
+mul-rows : tie.Need-mul-rows Inv-loop μ-loop Inv-paths μ-paths
+mul-rows c = omega (arith, group-small c)
+
+array-share-prefix-rows : tie.Need-array-share-prefix-rows Inv-loop μ-loop Inv-paths μ-paths
+array-share-prefix-rows c = rows-fit c
+
+slice-aggregate-write-rows : tie.Need-slice-aggregate-write-rows Inv-loop μ-loop Inv-paths μ-paths
+slice-aggregate-write-rows c = sym (part-long (c .before))
+
+mul-write-rows : tie.Need-mul-write-rows Inv-loop μ-loop Inv-paths μ-paths
+mul-write-rows c = omega (arith, group-small (c .before))
+
+write-rows-requires : tie.Need-write-rows-requires Inv-loop μ-loop Inv-paths μ-paths
+write-rows-requires c κs =
+    let group : Group = c .before .before in
+    let path : Path = path-of-group group in
+    subst (λ (x : ℕ). path .before .paths .path * entry path .args .t4 .count + x ≤ length (path .before .paths .seen))
+    (sym (part-long group)) (group-small group .cells)
+
+mul-steps : tie.Need-mul-steps Inv-loop μ-loop Inv-paths μ-paths
+mul-steps c = omega (arith, group-small (group-of c))
+
+add-steps : tie.Need-add-steps Inv-loop μ-loop Inv-paths μ-paths
+add-steps c = omega (arith, group-small (group-of c), path-of-group (group-of c) .before .paths .inv .counted)
+
+add-non-positive : tie.Need-add-non-positive Inv-loop μ-loop Inv-paths μ-paths
+add-non-positive c =
+    let group : Group = group-of c in
+    let before = path-of-group group .before .paths .inv in
+    omega (arith, walked group .few, before .few, before .most, given-group group .pre .0 .most)
+
+add-path : tie.Need-add-path Inv-loop μ-loop Inv-paths μ-paths
+add-path c = let group : Group = group-of c in omega (arith, group-within group, given-group group .pre .0 .most)
+
+paths-less : tie.Need-paths-less Inv-loop μ-loop Inv-paths μ-paths
+paths-less c = let group : Group = group-of c in omega (arith, group-within group)
+
+paths-again : tie.Need-paths-again Inv-loop μ-loop Inv-paths μ-paths
+paths-again c =
+    let group : Group = group-of c in
+    path-four (path-of-group group .before .paths .inv) (group-within group) (walked group) _ (rows-fit group) (c .before .before .write-rows .ensures) _ _ refl refl
+
+enum-told : tie.Need-enum-told Inv-loop μ-loop Inv-paths μ-paths
+enum-told c = search needs
+
+add-next-group : tie.Need-add-next-group Inv-loop μ-loop Inv-paths μ-paths
+add-next-group c =
+    let path : Path = c .before .before .before .before .before .before .before in omega (arith, path .paths-test .taken, entry path .pre .0 .most)
+
 -- ---- a path begins
 
 loop-holds : tie.Need-loop-holds Inv-loop μ-loop Inv-paths μ-paths
 loop-holds c =
-    (turn-first (laid-at (entry c)) (c .before .paths .inv .counted) (c .before .paths .inv .long), c .before .before .rates-at .ensures)
+    let path : Path = c .before in
+    (turn-first (laid-at (entry path)) (path .before .paths .inv .counted) (path .before .paths .inv .long), path .before .before .rates-at .ensures)
 
 -- ---- a step: what it asks
 
@@ -109,8 +232,8 @@ step-requires c κs =
 add-at : tie.Need-add-at Inv-loop μ-loop Inv-paths μ-paths
 add-at c = omega (arith, small-at (turn-of c))
 
-add-steps : tie.Need-add-steps Inv-loop μ-loop Inv-paths μ-paths
-add-steps c = omega (arith, small-at (turn-of c), turn-of c .before .loop .inv .0 .counted)
+add-steps-2 : tie.Need-add-steps-2 Inv-loop μ-loop Inv-paths μ-paths
+add-steps-2 c = omega (arith, small-at (turn-of c), turn-of c .before .loop .inv .0 .counted)
 
 ensure-finite-requires : tie.Need-ensure-finite-requires Inv-loop μ-loop Inv-paths μ-paths
 ensure-finite-requires c κs = search needs
@@ -121,14 +244,14 @@ enum-known-quantity c = search needs
 add-number : tie.Need-add-number Inv-loop μ-loop Inv-paths μ-paths
 add-number c = omega (arith, small-at (turn-of (c .before .before .before .before)))
 
-enum-told : tie.Need-enum-told Inv-loop μ-loop Inv-paths μ-paths
-enum-told c = search needs
+enum-told-2 : tie.Need-enum-told-2 Inv-loop μ-loop Inv-paths μ-paths
+enum-told-2 c = search needs
 
-mul-if2 : tie.Need-mul-if2 Inv-loop μ-loop Inv-paths μ-paths
-mul-if2 c = omega (arith, small-at (turn-of (step-of c)))
+mul-if4 : tie.Need-mul-if4 Inv-loop μ-loop Inv-paths μ-paths
+mul-if4 c = omega (arith, small-at (turn-of (step-of c)))
 
-element-copy-out-if2 : tie.Need-element-copy-out-if2 Inv-loop μ-loop Inv-paths μ-paths
-element-copy-out-if2 c = omega (arith, small-at (turn-of (step-of c)))
+element-copy-out-if4 : tie.Need-element-copy-out-if4 Inv-loop μ-loop Inv-paths μ-paths
+element-copy-out-if4 c = omega (arith, small-at (turn-of (step-of c)))
 
 observe-requires : tie.Need-observe-requires Inv-loop μ-loop Inv-paths μ-paths
 observe-requires c κs =
@@ -172,14 +295,14 @@ module _ (c : Flagged) where
   finite-now : finiteness (stateInUse (given (step-of c) .args .k .n) (step-of c .step .result)) ≡ Finite
   finite-now =
       finite-in-use (given (step-of c) .args .k .n) (step-of c .step .result) ∙ sym (c .before .before .before .before .ensure-finite .ensures)
-      ∙ c .before .before .enum-told .given .1
+      ∙ c .before .before .enum-told2 .given .1
 
   -- the flag of a non-positive path
-  low-now : c .if1 .low ≡ (turn-of (step-of c) .before .loop .low || le (step-of c .step .result .spot) plusZero)
+  low-now : c .if3 .low ≡ (turn-of (step-of c) .before .loop .low || le (step-of c .step .result .spot) plusZero)
   low-now =
       let zero = ap (le (step-of c .step .result .spot)) (sym zero-is) in
       let low = turn-of (step-of c) .before .loop .low in
-      ⊎-elim (λ w. raised low _ _ (zero ∙ w .0 .taken) (w .1)) (λ w. left-low low _ _ (zero ∙ w .0 .left) (w .1)) (c .if1 .came)
+      ⊎-elim (λ w. raised low _ _ (zero ∙ w .0 .taken) (w .1)) (λ w. left-low low _ _ (zero ∙ w .0 .left) (w .1)) (c .if3 .came)
 
   -- the last step of the segment
   last-now : getD (given (step-of c) .args .t4 .last) (turn-of (step-of c) .before .loop .segment) 0 ≡ lastStep (scheduleInUse (given (step-of c) .args .t4)) (suc (turn-of (step-of c) .before .loop .segment))
@@ -196,7 +319,7 @@ loop-again c =
     let turn : Turn = turn-of (step-of flagged) in
     let handed : Entry = entry (path-of turn) in (
       turn-write (laid-at handed) (turn .before .loop .inv .0) (turn .loop-test .taken) (stepped (step-of flagged)) (finite-now flagged)
-          (low-now flagged) (path-of turn .paths-test .taken) (c .before .before .if2 .taken ∙ last-now flagged)
+          (low-now flagged) (path-of turn .paths-test .taken) (c .before .before .if4 .taken ∙ last-now flagged)
           (c .before .observe .ensures ∙ observed-in-use (handed .args .observed) (handed .args .form) (handed .args .k .n) (handed .pre .0 .form) _),
       c .rates-at2 .ensures,
     )
@@ -210,36 +333,36 @@ loop-again-2 c =
     let flagged : Flagged = c .before .before in
     let turn : Turn = turn-of (step-of flagged) in (
       turn-on (laid-at (entry (path-of turn))) (turn .before .loop .inv .0) (turn .loop-test .taken) (stepped (step-of flagged)) (finite-now flagged)
-          (low-now flagged) (λ e. c .if2 .left (e ∙ sym (last-now flagged))),
+          (low-now flagged) (λ e. c .if4 .left (e ∙ sym (last-now flagged))),
       turn .before .loop .inv .1,
     )
 
 -- ---- a path ends
 
-add-non-positive : tie.Need-add-non-positive Inv-loop μ-loop Inv-paths μ-paths
-add-non-positive c =
-    let path : Path = c .before .before .before in
+add-non-positive-2 : tie.Need-add-non-positive-2 Inv-loop μ-loop Inv-paths μ-paths
+add-non-positive-2 c =
+    let path : Path = c .before .before .before .before in
     omega (arith, path .before .paths .inv .few, path .paths-test .taken, entry path .pre .0 .most)
 
-add-path : tie.Need-add-path Inv-loop μ-loop Inv-paths μ-paths
-add-path c = let path : Path = c .before .before .before in omega (arith, path .paths-test .taken, entry path .pre .0 .most)
+add-path-2 : tie.Need-add-path-2 Inv-loop μ-loop Inv-paths μ-paths
+add-path-2 c = let path : Path = c .before .before .before .before in omega (arith, path .paths-test .taken, entry path .pre .0 .most)
 
-paths-less : tie.Need-paths-less Inv-loop μ-loop Inv-paths μ-paths
-paths-less c = omega arith
+paths-less-2 : tie.Need-paths-less-2 Inv-loop μ-loop Inv-paths μ-paths
+paths-less-2 c = omega arith
 
-paths-again : tie.Need-paths-again Inv-loop μ-loop Inv-paths μ-paths
-paths-again c =
-    let path : Path = c .before .before .before in
+paths-again-2 : tie.Need-paths-again-2 Inv-loop μ-loop Inv-paths μ-paths
+paths-again-2 c =
+    let path : Path = c .before .before .before .before in
     let low = path .before .paths .non-positive in
     path-next (laid-at (entry path)) (path .before .paths .inv) (path .paths-test .taken) (c .before .before .loop .inv .0) (c .before .loop-test .left)
-    (⊎-elim (λ w. count-up low _ _ (w .0 .taken) (w .1)) (λ w. count-left low _ _ (w .0 .left) (w .1)) (c .if3 .came))
+    (⊎-elim (λ w. count-up low _ _ (w .0 .taken) (w .1)) (λ w. count-left low _ _ (w .0 .left) (w .1)) (c .if5 .came))
 
 -- ---- the run ends
 
 -- the table is as long as it was lent
 long-left : (c : tie.Left-paths Inv-loop μ-loop Inv-paths μ-paths) → length (c .paths-test .seen) ≡ length (c .before .before .before .before .before .args .seen .now)
 long-left c =
-    ⊎-elim (λ w. ap length (w .1) ∙ c .before .paths .inv .long) (λ w. ap length (w .9) ∙ w .1 .inv .0 .long) (c .paths-test .came)
+    ⊎-elim (λ w. ap length (w .1) ∙ c .before .paths .inv .long) (λ w. ap length (w .10) ∙ w .2 .inv .0 .long) (c .paths-test .came)
     ∙ sym (c .before .before .before .before .before .pre .0 .rows)
 
 same-length : tie.Need-same-length Inv-loop μ-loop Inv-paths μ-paths
@@ -251,16 +374,16 @@ returns c =
     let handed : Entry = c .before .before .before .before .before .before in
     let laid = laid-at handed in
     let before = c .before .before .paths .inv in
-    ⊎-elim (λ w. absurd (omega (arith, w .0 .left, c .if4 .taken)))
+    ⊎-elim (λ w. absurd (omega (arith, w .0 .left, c .if6 .taken)))
     (λ w.
     let taken : Stepped =
-    record { before = record { before = record { before = record { before = record { before = c .before .before; paths-test = w .0 }; loop = w .1 }; loop-test = w .2 }; draw-at = w .3 }; step = w .4 } in
-    let state = next-state laid (w .1 .inv .0) (w .2 .taken) (stepped taken) in
-    let fails = finite-in-use (handed .args .k .n) (w .4 .result) ∙ sym (w .5 .ensures) ∙ w .7 .given .1 in
+    record { before = record { before = record { before = record { before = record { before = record { before = c .before .before; paths-test = w .0 }; if1 = w .1 }; loop = w .2 }; loop-test = w .3 }; draw-at = w .4 }; step = w .5 } in
+    let state = next-state laid (w .2 .inv .0) (w .3 .taken) (stepped taken) in
+    let fails = finite-in-use (handed .args .k .n) (w .5 .result) ∙ sym (w .6 .ensures) ∙ w .8 .given .1 in
     with-claim _ laid (handed .pre .1) _ _ _ (handed .pre .0 .rows)
-    (w .10 ∙ sym (run-ends laid before (w .0 .taken) (w .1 .inv .0) (w .2 .taken) state fails))
+    (w .11 ∙ sym (run-ends laid before (w .0 .taken) (w .2 .inv .0) (w .3 .taken) state fails))
     (whole _ _ _ (laid .some) (handed .pre .0 .rows) (long-left (c .before))
-    (λ q j l m. rw (w .9) (entries-end laid before (w .0 .taken) (w .1 .inv .0) (w .2 .taken) state fails q j l m))))
+    (λ q j l m. rw (w .10) (entries-end laid before (w .0 .taken) (w .2 .inv .0) (w .3 .taken) state fails q j l m))))
     (c .before .paths-test .came)
 
 same-length-2 : tie.Need-same-length-2 Inv-loop μ-loop Inv-paths μ-paths
@@ -277,7 +400,7 @@ returns-2 c =
     with-claim _ laid (handed .pre .1) _ _ _ (handed .pre .0 .rows) (rw (w .3) (sym (run-done laid before (w .0 .left))))
     (whole _ _ _ (laid .some) (handed .pre .0 .rows) (long-left (c .before))
     (λ q j l m. rw (w .1) (entries-done laid before (w .0 .left) q j l m))))
-    (λ w. absurd (omega (arith, w .0 .taken, c .if4 .left))) (c .before .paths-test .came)
+    (λ w. absurd (omega (arith, w .0 .taken, c .if6 .left))) (c .before .paths-test .came)
 
 pub run-paths-spec : {M : Type 1} → statement M
 run-paths-spec =
@@ -289,17 +412,34 @@ run-paths-spec =
     μ-paths
     rates-at-requires
     paths-holds
+    add-if2
+    slice-aggregate-walk-four
+    walk-four-requires
+    enum-known-fell
+    mul-rows
+    array-share-prefix-rows
+    slice-aggregate-write-rows
+    mul-write-rows
+    write-rows-requires
+    mul-steps
+    add-steps
+    add-non-positive
+    add-path
+    paths-less
+    paths-again
+    enum-told
+    add-next-group
     loop-holds
     draw-at-requires
     step-requires
     add-at
-    add-steps
+    add-steps-2
     ensure-finite-requires
     enum-known-quantity
     add-number
-    enum-told
-    mul-if2
-    element-copy-out-if2
+    enum-told-2
+    mul-if4
+    element-copy-out-if4
     observe-requires
     mul-seen
     add-seen
@@ -311,10 +451,10 @@ run-paths-spec =
     loop-again
     loop-less-2
     loop-again-2
-    add-non-positive
-    add-path
-    paths-less
-    paths-again
+    add-non-positive-2
+    add-path-2
+    paths-less-2
+    paths-again-2
     same-length
     returns
     same-length-2

@@ -1,0 +1,302 @@
+-- `groups::walk_four` meets its contract. Assumes nothing.
+use Prim.Native.Nat.{ℕ, suc, _+_, _-_, _<_}
+use mathlib.Core.Path.{_≡_, refl, sym, _∙_, subst}
+use mathlib.Core.Bool.{Bool, false}
+use mathlib.Core.List.{List}
+use native.Mathlib.Omega.{arith}
+use borrow.Author.Needs.{needs}
+use borrow.Author.Tests.{not-false}
+use lib.ListN.{length, getD}
+use lib.Ieee.{Float, nan}
+use Rattle.model.specs.declared.Kernel.{Kernel}
+use Rattle.model.specs.declared.RawParams.{RawParams}
+use Rattle.model.specs.declared.Schedule.{Schedule}
+use Rattle.model.specs.declared.State.{State}
+use Rattle.model.specs.Rates.{RatesOf}
+use Rattle.lanes.specs.Lanes.{laneOf}
+use Rattle.model.specs.Laid.{Laid}
+use Rattle.model.specs.Schedule.{lastStep, dtAt, sqrtDtAt, scheduleInUse}
+use Rattle.model.proofs.Laws.{rates-own}
+use Rattle.model.proofs.Containment.{laid-in-use, reached-open}
+use lib.Seq.{getD-take}
+use Rattle.model.specs.Step.{step, kernelInUse, stateInUse}
+use Rattle.vix.specs.declared.Vix.{Vix}
+use Rattle.vix.specs.Form.{vixInUse}
+use Rattle.walks.specs.declared.Observed.{Observed}
+use Rattle.walks.specs.Batch.{Batch, drawOf, observationOf}
+use Rattle.groups.specs.Group.{FourWalked}
+use Rattle.walks.proofs.Handed.{step-in-use}
+use Rattle.lanes.proofs.Four.{four-same}
+use Rattle.groups.proofs.Beside.{Beside, beside-first, beside-on, beside-write, beside-done, lane-at-start}
+use Rattle.groups.proofs.walk_four.Statement.{statement}
+use Rattle.groups.proofs.walk_four.Tie as tie
+
+-- the batch, but for its start
+abbrev sideBatch : Kernel → RawParams → State → Schedule → Observed → Vix → Bool → ℕ → List Float → Batch
+sideBatch k p start sched observed form mirrored paths draws =
+    record {
+      kernel = kernelInUse k;
+      raw = p;
+      start = start;
+      schedule = scheduleInUse sched;
+      paths = paths;
+      draw = drawOf mirrored draws (sched .total);
+      observe = observationOf observed (vixInUse form);
+    }
+
+abbrev Inv-loop : tie.InvT-loop
+Inv-loop k p observed form mirrored path draws rows₀ sched total count factors₀ s₀ low₀ segment₀ rates₀ at₀ rows factors s low segment rates at =
+    ((paths : ℕ) → Beside (sideBatch k p (laneOf (k .n) s₀ factors₀ 0) sched observed form mirrored paths draws) (k .n) path segment at s factors low rows)
+    × RatesOf k (getD (sched .dt) segment nan) (getD (sched .«sqrt_dt») segment nan) rates
+
+abbrev μ-loop : tie.MeasureT-loop
+μ-loop k p observed form mirrored path draws rows₀ sched total count factors₀ s₀ low₀ segment₀ rates₀ at₀ rows factors s low segment rates at =
+    total - at
+
+-- ---- the places of the code that the answers name: the entry, the loop's head, a turn, the step
+-- tried, and the flags set after it
+
+abbrev Entry : Type 0
+Entry = tie.Start Inv-loop μ-loop
+
+abbrev Head : Type 0
+Head = tie.At-loop Inv-loop μ-loop
+
+abbrev Turn : Type 0
+Turn = tie.In-loop Inv-loop μ-loop
+
+abbrev Stepped : Type 0
+Stepped = tie.After-try-step Inv-loop μ-loop
+
+abbrev Flagged : Type 0
+Flagged = tie.After-fallen Inv-loop μ-loop
+
+abbrev entry : Head → Entry
+entry c = c .before .before .before .before .before .before .before .before .before
+
+abbrev turn-of : Stepped → Turn
+turn-of c = c .before .before .before
+
+abbrev step-of : Flagged → Stepped
+step-of c = c .before .before .before .before .before .before
+
+abbrev flagged-of : tie.After-slice-known2 Inv-loop μ-loop → Flagged
+flagged-of c = c .before .before .before .before .before .before .before .before
+
+laid-at : (c : Entry) → Laid (scheduleInUse (c .args .t4))
+laid-at c = laid-in-use (c .args .t4) (c .pre .laid)
+
+open-at : (c : Turn) → c .before .loop .segment < entry (c .before) .args .t4 .count
+open-at c = reached-open _ (laid-at (entry (c .before))) _ _ (c .before .loop .inv .0 0 .reached) (c .loop-test .taken)
+
+long-start : (c : Entry) → length (c .args .start .factors) ≡ 10
+long-start c = search needs
+
+-- ---- before the loop
+
+slice-aggregate-spread : tie.Need-slice-aggregate-spread Inv-loop μ-loop
+slice-aggregate-spread c = search needs
+
+spread-requires : tie.Need-spread-requires Inv-loop μ-loop
+spread-requires c κs = (c .before .before .before .before .pre .few, refl)
+
+all-at-requires : tie.Need-all-at-requires Inv-loop μ-loop
+all-at-requires c κs = search needs
+
+rates-at-requires : tie.Need-rates-at-requires Inv-loop μ-loop
+rates-at-requires c κs = c .before .before .before .before .before .before .before .pre .few
+
+-- every lane at the start
+all-start : (c : tie.After-all-at Inv-loop μ-loop) → let start = c .before .before .before .before .before .before .before in (l : ℕ) → l < 4
+    → laneOf (start .args .k .n) (c .all-at .result) (c .before .before .spread .last .1 .1 .0) l ≡ stateInUse (start .args .k .n) (start .args .start)
+all-start c =
+    let start = c .before .before .before .before .before .before .before in
+    lane-at-start (start .args .k .n) (start .args .start) (c .all-at .result) _ (omega (arith, start .pre .few, long-start start))
+    (c .all-at .ensures) (c .before .before .spread .ensures)
+
+loop-holds : tie.Need-loop-holds Inv-loop μ-loop
+loop-holds c =
+    let start = c .before .before .before .before .before .before .before .before in
+    let same = all-start (c .before) in (
+      λ paths.
+          beside-first _ (laid-at start) (start .args .k .n) (start .args .path) _ _ _ _ (c .before .before .before .spread .ensures .long)
+          (start .pre .rows-long) (λ l h. same l h ∙ sym (same 0 (omega arith))) (four-same false false),
+      c .rates-at .ensures,
+    )
+
+-- ---- a step: what it asks
+
+draws-at-requires : tie.Need-draws-at-requires Inv-loop μ-loop
+draws-at-requires c κs =
+    ((c .loop-test .taken, entry (c .before) .pre .most), entry (c .before) .pre .drawn)
+
+slice-aggregate-try-step : tie.Need-slice-aggregate-try-step Inv-loop μ-loop
+slice-aggregate-try-step c = sym (c .before .before .before .loop .inv .0 0 .long)
+
+try-step-requires : tie.Need-try-step-requires Inv-loop μ-loop
+try-step-requires c κs =
+    let head : Head = c .before .before .before in
+    ((entry head .pre .few, head .loop .inv .0 0 .long), rates-own (entry head .args .k) _ _ _ (head .loop .inv .1))
+
+same-length : tie.Need-same-length Inv-loop μ-loop
+same-length c =
+    let head : Head = turn-of (c .before .before .before) .before in head .loop .inv .0 0 .wide ∙ sym (entry head .pre .rows-long)
+
+returns : tie.Need-returns Inv-loop μ-loop
+returns c = (turn-of (c .before .before .before) .before .loop .inv .0 0 .wide, λ paths. tt)
+
+add-at : tie.Need-add-at Inv-loop μ-loop
+add-at c =
+    let turn : Turn = turn-of (c .before .before .before .before) in omega (arith, turn .loop-test .taken, entry (turn .before) .pre .laid .short)
+
+fallen-requires : tie.Need-fallen-requires Inv-loop μ-loop
+fallen-requires c κs = search needs
+
+segment-few : (c : Turn) → c .before .loop .segment < 64
+segment-few c = omega (arith, open-at c, entry (c .before) .pre .laid .few)
+
+mul-if2 : tie.Need-mul-if2 Inv-loop μ-loop
+mul-if2 c = omega (arith, segment-few (turn-of (step-of c)))
+
+element-copy-out-if2 : tie.Need-element-copy-out-if2 Inv-loop μ-loop
+element-copy-out-if2 c = omega (arith, segment-few (turn-of (step-of c)))
+
+slice-aggregate-observe : tie.Need-slice-aggregate-observe Inv-loop μ-loop
+slice-aggregate-observe c = search needs
+
+-- the factors are as many as before
+long-now : (c : Stepped) → length (c .try-step .last .1 .1 .1 .1 .1 .0) ≡ 40
+long-now c = c .try-step .ensures .long ∙ turn-of c .before .loop .inv .0 0 .long
+
+observe-requires : tie.Need-observe-requires Inv-loop μ-loop
+observe-requires c κs =
+    let flagged : Flagged = c .before .before .before in
+    let given = entry (turn-of (step-of flagged) .before) in
+    (omega (arith, given .pre .few, given .pre .form), long-now (step-of flagged))
+
+write-column-requires : tie.Need-write-column-requires Inv-loop μ-loop
+write-column-requires c κs =
+    let turn : Turn = turn-of (step-of (c .before .before .before .before .before)) in
+    (turn .before .loop .inv .0 0 .wide, entry (turn .before) .pre .laid .few, open-at turn)
+
+add-segment : tie.Need-add-segment Inv-loop μ-loop
+add-segment c = omega (arith, segment-few (turn-of (step-of (flagged-of c))))
+
+rates-at-requires-2 : tie.Need-rates-at-requires-2 Inv-loop μ-loop
+rates-at-requires-2 c κs = entry (turn-of (step-of (flagged-of c)) .before) .pre .few
+
+-- ---- a step: what it leaves
+
+module _ (c : Flagged) where
+  abbrev head : Head
+  head = turn-of (step-of c) .before
+
+  abbrev given : Entry
+  given = entry head
+
+  -- each lane's state is that of the plain walk
+  stepped : (l : ℕ) → l < 4 → laneOf (given .args .k .n) (step-of c .try-step .result .lanes) (step-of c .try-step .last .1 .1 .1 .1 .1 .0) l ≡ step (kernelInUse (given .args .k)) (given .args .p) (laneOf (given .args .k .n) (head .loop .s) (head .loop .factors) l) (drawOf (given .args .mirrored) (given .args .draws .now) (given .args .t4 .total) (suc (given .args .path + l)) (suc (head .loop .at))) (dtAt (scheduleInUse (given .args .t4)) (suc (head .loop .at))) (sqrtDtAt (scheduleInUse (given .args .t4)) (suc (head .loop .at)))
+  stepped l h =
+      step-in-use (given .args .t4) (given .pre .laid) _ _ (head .loop .inv .0 0 .reached) (open-at (turn-of (step-of c))) (given .args .k) (head .loop .rates) (head .loop .inv .1) _ _ _ _ _ _ (step-of c .before .before .draws-at .ensures l h)
+      (step-of c .try-step .ensures .lane (not-false _ (c .before .before .before .if1 .left)) l h)
+
+  -- the last step of the segment
+  last-now : getD (given .args .t4 .last) (head .loop .segment) 0 ≡ lastStep (scheduleInUse (given .args .t4)) (suc (head .loop .segment))
+  last-now = sym (getD-take (given .args .t4 .count) (given .args .t4 .last) _ 0 (open-at (turn-of (step-of c))))
+
+loop-less : tie.Need-loop-less Inv-loop μ-loop
+loop-less c = omega arith
+
+loop-again : tie.Need-loop-again Inv-loop μ-loop
+loop-again c =
+    let written = c .before .before .before in
+    let observed = written .before .before in
+    let flagged : Flagged = flagged-of (c .before) in
+    let h = head flagged in (
+      λ paths.
+          beside-write (laid-at (given flagged)) (h .loop .inv .0 paths) (turn-of (step-of flagged) .loop-test .taken) _ _ _
+          (stepped flagged) (long-now (step-of flagged)) (flagged .fallen .ensures)
+          (observed .before .before .if2 .taken ∙ last-now flagged) _ (written .write-column .ensures .long ∙ h .loop .inv .0 0 .wide)
+          (λ l m. written .write-column .ensures .new l m ∙ observed .observe .ensures (given flagged .args .k .n) l (given flagged .pre .form) m)
+          (written .write-column .ensures .kept),
+      c .rates-at2 .ensures,
+    )
+
+loop-less-2 : tie.Need-loop-less-2 Inv-loop μ-loop
+loop-less-2 c = omega arith
+
+loop-again-2 : tie.Need-loop-again-2 Inv-loop μ-loop
+loop-again-2 c =
+    let flagged : Flagged = c .before .before in
+    let h = head flagged in (
+      λ paths.
+          beside-on (laid-at (given flagged)) (h .loop .inv .0 paths) (turn-of (step-of flagged) .loop-test .taken) _ _ _
+          (stepped flagged) (long-now (step-of flagged)) (flagged .fallen .ensures) (λ e. c .if2 .left (e ∙ sym (last-now flagged))),
+      h .loop .inv .1,
+    )
+
+-- ---- the walk ends
+
+all-finite-requires : tie.Need-all-finite-requires Inv-loop μ-loop
+all-finite-requires c κs = search needs
+
+same-length-2 : tie.Need-same-length-2 Inv-loop μ-loop
+same-length-2 c = let head : Head = c .before .before .before in head .loop .inv .0 0 .wide ∙ sym (entry head .pre .rows-long)
+
+returns-2 : tie.Need-returns-2 Inv-loop μ-loop
+returns-2 c = (c .before .before .before .loop .inv .0 0 .wide, λ paths. tt)
+
+set-flags-requires : tie.Need-set-flags-requires Inv-loop μ-loop
+set-flags-requires c κs = search needs
+
+same-length-3 : tie.Need-same-length-3 Inv-loop μ-loop
+same-length-3 c =
+    let head : Head = c .before .before .before .before in head .loop .inv .0 0 .wide ∙ sym (entry head .pre .rows-long)
+
+returns-3 : tie.Need-returns-3 Inv-loop μ-loop
+returns-3 c =
+    let h : Head = c .before .before .before .before in
+    let e = entry h in (
+      h .loop .inv .0 0 .wide,
+      λ paths.
+          subst (λ (x : State). FourWalked (sideBatch (e .args .k) (e .args .p) x (e .args .t4) (e .args .observed) (e .args .form) (e .args .mirrored) paths (e .args .draws .now)) (e .args .path) (h .loop .rows) (c .set-flags .result))
+          (all-start (h .before .before) 0 (omega arith))
+          (beside-done (laid-at e) (h .loop .inv .0 paths) (c .before .before .before .loop-test .left) _ (c .set-flags .ensures .0)
+          (c .set-flags .ensures .1) (c .before .before .all-finite .ensures (not-false _ (c .before .if3 .left)))),
+    )
+
+pub walk-four-spec : {M : Type 1} → statement M
+walk-four-spec =
+    tie.close
+    (tie.spec
+    Inv-loop
+    μ-loop
+    slice-aggregate-spread
+    spread-requires
+    all-at-requires
+    rates-at-requires
+    loop-holds
+    draws-at-requires
+    slice-aggregate-try-step
+    try-step-requires
+    same-length
+    returns
+    add-at
+    fallen-requires
+    mul-if2
+    element-copy-out-if2
+    slice-aggregate-observe
+    observe-requires
+    write-column-requires
+    add-segment
+    rates-at-requires-2
+    loop-less
+    loop-again
+    loop-less-2
+    loop-again-2
+    all-finite-requires
+    same-length-2
+    returns-2
+    set-flags-requires
+    same-length-3
+    returns-3)

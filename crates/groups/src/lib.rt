@@ -1,0 +1,163 @@
+// A group of four paths of a batch, walked side by side: the same walks as those of one path after
+// the other, where each of their steps is finite.
+ghost use mathlib.Core.Path.{_≡_};
+ghost use Prim.Native.Nat.{ℕ, suc, _+_, _≤_, _<_};
+ghost use lib.ListN.{length, getD};
+ghost use lib.Ieee.{nan};
+ghost use Rattle.vix.specs.Form.{vixInUse};
+ghost use Rattle.walks.specs.Batch.{drawPlace, drawOf, batchOf};
+ghost use Rattle.groups.specs.Group.{flagged, Fell, ObservedLanes, Column, GroupPrepared, Walks, Copied};
+use lanes::Lanes;
+use model::Kernel;
+use model::RawParams;
+use model::Schedule;
+use model::State;
+use model::scheme;
+use vix::Vix;
+use walks::Observed;
+
+// What a group came to: all four walked to their ends, with so many of them non-positive, or a step
+// that was not finite or a root that was not found, and then nothing is known.
+pub enum Together {
+    Walked { non_positive: u64 },
+    Unsure,
+}
+
+// The draws of step `at` + 1 of paths `path` + 1 to `path` + 4.
+fn draws_at(mirrored: bool, draws: &[f64], total: usize, path: usize, at: usize) -> [f64; 4]
+    requires { ⌜ (at < total) × (path ≤ 65536) ⌝ }
+    requires { ⌜ ((l : ℕ) → l < 4
+        → drawPlace mirrored total (suc (path + l)) (suc total) ≤ length (now draws)) ⌝ }
+    ensures { λ r. ⌜ ((l : ℕ) → l < 4 → getD r l nan
+        ≡ drawOf mirrored (now (draws .entry)) total (suc (path + l)) (suc at)) ⌝ }
+{
+    [
+        walks::draw_at(mirrored, draws, total, path, at),
+        walks::draw_at(mirrored, draws, total, path + 1, at),
+        walks::draw_at(mirrored, draws, total, path + 2, at),
+        walks::draw_at(mirrored, draws, total, path + 3, at),
+    ]
+}
+
+// The flags, with those set of the lanes whose spot is not above zero.
+fn fallen(low: [bool; 4], spot: [f64; 4]) -> [bool; 4]
+    ensures { λ r. ⌜ Fell low spot r ⌝ }
+{
+    let mut flags = low;
+    let mut l: usize = 0;
+    while l < 4 {
+        if spot[l] <= 0.0 {
+            flags[l] = true;
+        }
+        l += 1;
+    }
+    flags
+}
+
+// How many flags are set.
+fn set_flags(low: [bool; 4]) -> u64
+    ensures { λ r. ⌜ (r ≡ flagged low 4) × (r ≤ 4) ⌝ }
+{
+    let mut count: u64 = 0;
+    let mut l: usize = 0;
+    while l < 4 {
+        if low[l] {
+            count += 1;
+        }
+        l += 1;
+    }
+    count
+}
+
+// What is observed in each lane.
+fn observe(observed: Observed, form: Vix, s: Lanes, factors: &[f64]) -> [f64; 4]
+    requires { ⌜ (form .n ≤ 10) × (length (now factors) ≡ 40) ⌝ }
+    ensures { λ r. ⌜ ObservedLanes observed (vixInUse form) s (now (factors .entry)) r ⌝ }
+{
+    match observed {
+        Observed::Spot => s.spot,
+        Observed::VixSquared => lanes::form::squared(form, factors),
+    }
+}
+
+// One entry of each row, in column `segment`.
+fn write_column(values: [f64; 4], count: usize, segment: usize, rows: &mut [f64])
+    requires { ⌜ (length (now rows) ≡ 256) × (count ≤ 64) × (segment < count) ⌝ }
+    ensures { λ _. ⌜ Column values count segment (now (rows .entry)) (now (rows .exit)) ⌝ }
+{
+    let mut l: usize = 0;
+    while l < 4 {
+        rows[l * count + segment] = values[l];
+        l += 1;
+    }
+}
+
+// Paths `path` + 1 to `path` + 4. Their observations go to `rows`, a row a path and a column a
+// segment. Finiteness is asked once: a path that ends finite was finite throughout.
+pub fn walk_four(
+    k: Kernel,
+    p: RawParams,
+    start: State,
+    sched: Schedule,
+    observed: Observed,
+    form: Vix,
+    mirrored: bool,
+    path: usize,
+    draws: &[f64],
+    rows: &mut [f64],
+) -> Together
+    requires { ⌜ GroupPrepared k sched form mirrored path (now draws) (now rows) ⌝ }
+    ensures long { λ r. ⌜ length (now (rows .exit)) ≡ 256 ⌝ }
+    ensures walks { λ r. ⌜ ((paths : ℕ) → Walks
+        (batchOf k p start sched observed form mirrored paths (now (draws .entry)))
+        path (now (rows .exit)) r) ⌝ }
+{
+    let total = sched.total;
+    let count = sched.count;
+    let own = start.factors;
+    let mut factors = [0.0; 40];
+    lanes::spread(k.n, own, &mut factors[..]);
+    let mut s = lanes::all_at(start);
+    let mut low = [false; 4];
+    let mut segment: usize = 0;
+    let mut rates = scheme::rates_at(k, sched, segment);
+    let mut at: usize = 0;
+    while at < total {
+        let g = draws_at(mirrored, draws, total, path, at);
+        let tried = lanes::scheme::try_step(k, p, s, g, rates, &mut factors[..]);
+        if !tried.sure {
+            return Together::Unsure;
+        }
+        let next = tried.lanes;
+        s = next;
+        at += 1;
+        let spot = s.spot;
+        let flags = fallen(low, spot);
+        low = flags;
+        if at == sched.last[segment] {
+            let values = observe(observed, form, s, &factors[..]);
+            write_column(values, count, segment, rows);
+            segment += 1;
+            rates = scheme::rates_at(k, sched, segment);
+        }
+    }
+    if !lanes::all_finite(s) {
+        return Together::Unsure;
+    }
+    Together::Walked {
+        non_positive: set_flags(low),
+    }
+}
+
+// Copies rows to observations, from place `at` on.
+pub fn write_rows(rows: &[f64], at: usize, observations: &mut [f64])
+    requires { ⌜ at + length (now rows) ≤ length (now observations) ⌝ }
+    ensures { λ _. ⌜ Copied (now (rows .entry)) at
+        (now (observations .entry)) (now (observations .exit)) ⌝ }
+{
+    let mut i: usize = 0;
+    while i < rows.len() {
+        observations[at + i] = rows[i];
+        i += 1;
+    }
+}

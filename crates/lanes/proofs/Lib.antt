@@ -1,0 +1,3 @@
+pub mod Four
+pub mod Moving
+pub mod Forms

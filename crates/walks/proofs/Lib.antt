@@ -1,0 +1,4 @@
+pub mod Cells
+pub mod Flags
+pub mod Handed
+pub mod Absorbing
