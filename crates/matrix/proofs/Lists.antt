@@ -15,15 +15,19 @@ use Rattle.matrix.specs.Matrix.{entry, scaled, allFinite, columnSum, lar
 
 -- ---- a part of a list
 
-pub counted : (from n : ℕ) → from + n - from ≡ n
-counted from n = omega arith
+-- the n elements from `from` on
+module _ (l : List Float) (from n : ℕ) where
+  counted : from + n - from ≡ n
+  counted = omega arith
 
-module _ (l : List Float) (from to : ℕ) where
-  pub part-length : to ≤ length l → length (take (to - from) (drop from l)) ≡ to - from
-  part-length h = length-take-le (to - from) (drop from l) (omega (arith, length-drop from l))
+  pub part-length : from + n ≤ length l → length (take (from + n - from) (drop from l)) ≡ n
+  part-length h =
+      length-take-le (from + n - from) (drop from l) (omega (arith, length-drop from l)) ∙ counted
 
-  pub part-at : (j : ℕ) → j < to - from → getD (take (to - from) (drop from l)) j nan ≡ getD l (from + j) nan
-  part-at j h = getD-take (to - from) (drop from l) j nan h ∙ getD-drop from l j nan
+  pub part-at : (j : ℕ) → j < n
+      → getD (take (from + n - from) (drop from l)) j nan ≡ getD l (from + j) nan
+  part-at j h =
+      getD-take (from + n - from) (drop from l) j nan (omega arith) ∙ getD-drop from l j nan
 
 -- a list with ys in the place of the k elements from `at` on
 module _ (xs ys : List Float) (at k : ℕ) (within : at ≤ length xs) where

@@ -3,17 +3,19 @@ use mathlib.Core.Path.{_≡_, refl, sym, ap, _∙_, subst}
 use mathlib.Core.Bool.{true, false}
 use mathlib.Core.List.{List}
 use Prim.Native.Nat.{ℕ, zero, suc, _+_, _-_, _*_, _≤_, _<_}
-use native.Mathlib.Nat.{zero-mul, zero-add, le-antisymm}
+use native.Mathlib.Nat.{zero-mul, zero-add, le-antisymm, not-suc-le-zero}
 use native.Mathlib.Numerals.{add-one}
+use native.Mathlib.Decide.{decLe}
 use native.Mathlib.Omega.{arith}
 use lib.ListN.{length, getD, take, drop, replicate, length-replicate, getD-replicate}
 use lib.Ieee.{Float, nan, eq, ne}
 use borrow.Author.Tests.{not-true, not-false}
 use Rattle.numeric.specs.Double.{plus, times, plusZero}
 use Rattle.matrix.specs.Matrix.{entry, withTerm, termSum, product}
-use Rattle.matrix.specs.Workspace.{Added}
+use borrow.Rule.Slice.PartMut.{putMid, midOf, same-len-mid}
+use Rattle.matrix.specs.Workspace.{Added, ColumnSums, Filled}
 use Rattle.matrix.proofs.Cells.{row-end, length-matrix, entry-matrix}
-use Rattle.matrix.proofs.Lists.{part-length, part-at}
+use Rattle.matrix.proofs.Lists.{part-length, part-at, put-before, put-in}
 
 -- ---- an entry
 
@@ -50,53 +52,99 @@ module _ (n : ℕ) (a b : List Float) (i j k : ℕ) where
   unfolding termSum withTerm
   term-add e = rw (add-one, e)
 
--- the sums of a row after k of its terms
-pub record Row (n : ℕ) (left right row : List Float) (k : ℕ) : Type 0 where
-  pub len : length row ≡ n
-  pub sums : (j : ℕ) → j < n → getD row j nan ≡ termSum n left right 0 j k
+-- ---- the sums of columns, term after term
 
-module _ (n : ℕ) (left right : List Float) where
-  pub row-none : (row cleared : List Float) → length row ≡ n → cleared ≡ replicate (length row) plusZero → Row n left right cleared 0
+module _ (n : ℕ) (left right : List Float) (from width : ℕ) where
+  abbrev Sums : ℕ → List Float → Type 0
+  Sums k sums = ColumnSums n left right from width sums k
+
+  pub sums-none : (sums : List Float) → sums ≡ replicate width plusZero → Sums 0 sums
   unfolding termSum
-  row-none row cleared l e =
-      let z : cleared ≡ replicate n plusZero = e ∙ ap (λ (k : ℕ). replicate k plusZero) l in
-      subst (λ (r : List Float). Row n left right r 0) (sym z)
-      (record { len = length-replicate n plusZero; sums = λ j h. getD-replicate n j plusZero nan h })
+  sums-none sums e =
+      subst (Sums 0) (sym e)
+      (record {
+        len = length-replicate width plusZero;
+        sum = λ l h. getD-replicate width l plusZero nan h;
+      })
 
-  pub row-skip : (row now : List Float) (k : ℕ) → Row n left right row k → ne (getD left k nan) plusZero ≡ false → now ≡ row → Row n left right now (k + 1)
+  pub sums-skip : (sums now : List Float) (k : ℕ) → Sums k sums
+      → ne (getD left k nan) plusZero ≡ false → now ≡ sums → Sums (k + 1) now
   unfolding ne
-  row-skip row now k p e q =
-      subst (λ (r : List Float). Row n left right r (k + 1)) (sym q)
-      (let z : eq (entry n left 0 k) plusZero ≡ true = ap (λ (x : Float). eq x plusZero) (first-row n k left) ∙ not-false _ e in
-      record { len = p .len; sums = λ j h. p .sums j h ∙ term-skip n left right 0 j k z })
+  sums-skip sums now k p e q =
+      subst (Sums (k + 1)) (sym q)
+      (record { len = p .len; sum = λ l h. p .sum l h ∙ term-skip n left right 0 (from + l) k skip })
+    where
+      skip : eq (entry n left 0 k) plusZero ≡ true
+      skip = rw first-row (not-false _ e)
 
-  pub row-add : (row after now : List Float) (k : ℕ) → k < n → length right ≡ n * n → Row n left right row k → ne (getD left k nan) plusZero ≡ true
-      → Added (getD left k nan) (take (k * n + n - k * n) (drop (k * n) right)) row after → now ≡ after → Row n left right now (k + 1)
+  pub sums-add : (sums after now : List Float) (k : ℕ) → k < n → from + width ≤ n
+      → length right ≡ n * n → Sums k sums → ne (getD left k nan) plusZero ≡ true
+      → Added (getD left k nan)
+      (take (k * n + from + width - (k * n + from)) (drop (k * n + from) right)) sums after
+      → now ≡ after → Sums (k + 1) now
   unfolding ne
-  row-add row after now k h len p e s q =
-      subst (λ (r : List Float). Row n left right r (k + 1)) (sym q)
-      (let z : eq (entry n left 0 k) plusZero ≡ false = ap (λ (x : Float). eq x plusZero) (first-row n k left) ∙ not-true _ e in
-      record {
-        len = s .len ∙ p .len;
-        sums = λ j l.
-            s .sums j (subst (λ (m : ℕ). j < m) (sym long) l)
-            ∙ ap (λ (x : Float). plus x (times (getD left k nan) (getD part j nan))) (p .sums j l)
-            ∙ ap (λ (x : Float). plus (termSum n left right 0 j k) (times (getD left k nan) x)) (part-is j l)
-            ∙ ap (λ (x : Float). plus (termSum n left right 0 j k) (times x (entry n right k j))) (sym (first-row n k left))
-            ∙ term-add n left right 0 j k z;
+  sums-add sums after now k h fits long p e s q =
+      subst (Sums (k + 1)) (sym q) (record { len = s .len ∙ p .len; sum = added })
+    where
+      at : ℕ
+      at = k * n + from
+
+      part : List Float
+      part = take (at + width - at) (drop at right)
+
+      part-long : length part ≡ width
+      part-long = part-length right at width (omega (arith, row-end h))
+
+      part-is : (l : ℕ) → l < width → getD part l nan ≡ entry n right k (from + l)
+      part-is l b = part-at right at width l b ∙ ap (λ (m : ℕ). getD right m nan) (omega arith)
+
+      nonzero : eq (entry n left 0 k) plusZero ≡ false
+      nonzero = rw first-row (not-true _ e)
+
+      added : (l : ℕ) → l < width → getD after l nan ≡ termSum n left right 0 (from + l) (k + 1)
+      added l b =
+          let inside : l < length part = omega (arith, part-long) in
+          let term = term-add n left right 0 (from + l) k nonzero in
+          s .sums l inside ∙ rw (p .sum l b, part-is l b, ← first-row n k left) term
+
+  pub sums-all : (sums : List Float) (k : ℕ) → Sums k sums → k ≤ n → n ≤ k → Sums n sums
+  sums-all sums k p l h = subst (λ (m : ℕ). Sums m sums) (le-antisymm l h) p
+
+-- ---- a row, block after block
+
+module _ (n : ℕ) (left right row : List Float) where
+  pub filled-none : length row ≡ n → Filled n left right row 0
+  filled-none l =
+      record { len = l; within = omega arith; column = λ c h. absurd (not-suc-le-zero h) }
+
+  -- a block begins no later than the columns that are filled end: it may write some of them again
+  pub filled-more : (sums new : List Float) (j from width : ℕ) → from ≤ j → from + width ≤ n
+      → Filled n left right row j → ColumnSums n left right from width sums n → new ≡ sums
+      → Filled n left right (putMid from (from + width - from) row new) (from + width)
+  filled-more sums new j from width begins ends p s q =
+      subst (λ (l : List Float). Filled n left right (putMid from size row l) (from + width))
+      (sym q)
+      (record {
+        len = same-len-mid from size row sums (s .len ∙ sym part-long) ∙ p .len;
+        within = ends;
+        column = λ c h. block-or-before c (decLe from c) h;
       })
     where
-      part : List Float
-      part = take (k * n + n - k * n) (drop (k * n) right)
+      size : ℕ
+      size = from + width - from
 
-      size : k * n + n - k * n ≡ n
-      size = omega arith
+      part-long : length (midOf from size row) ≡ width
+      part-long = part-length row from width (omega (arith, p .len))
 
-      long : length part ≡ n
-      long = part-length right (k * n) (k * n + n) (omega (arith, row-end h)) ∙ size
+      inside : from ≤ length row
+      inside = omega (arith, p .len)
 
-      part-is : (j : ℕ) → j < n → getD part j nan ≡ entry n right k j
-      part-is j l = part-at right (k * n) (k * n + n) j (omega arith)
-
-  pub row-all : (row : List Float) (k : ℕ) → Row n left right row k → k ≤ n → n ≤ k → (j : ℕ) → j < n → getD row j nan ≡ termSum n left right 0 j n
-  row-all row k p l h j i = p .sums j i ∙ ap (termSum n left right 0 j) (le-antisymm l h)
+      block-or-before : (c : ℕ) → Dec (from ≤ c) → c < from + width
+          → getD (putMid from size row sums) c nan ≡ termSum n left right 0 c n
+      block-or-before c (yes a) h =
+          let e : from + (c - from) ≡ c = omega arith in
+          subst (λ (m : ℕ). getD (putMid from size row sums) m nan ≡ termSum n left right 0 m n) e
+          (put-in row sums from size inside (c - from) (omega (arith, s .len))
+          ∙ s .sum (c - from) (omega arith))
+      block-or-before c (no a) h =
+          put-before row sums from size inside c (omega arith) ∙ p .column c (omega arith)

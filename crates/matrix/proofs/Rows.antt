@@ -9,10 +9,10 @@ use lib.ListN.{length, getD, take, drop}
 use lib.Seq.{getD-take}
 use lib.Arith.{digits-lt}
 use lib.Ieee.{Float, nan}
-use borrow.Rule.Slice.PartMut.{putMid, midOf, same-len-mid, mid-len}
+use borrow.Rule.Slice.PartMut.{putMid, midOf, same-len-mid}
 use Rattle.matrix.specs.Matrix.{entry, termSum, product}
 use Rattle.matrix.specs.Workspace.{matrixAt, Multiplied}
-use Rattle.matrix.proofs.Lists.{counted, part-at, put-before, put-in}
+use Rattle.matrix.proofs.Lists.{part-length, part-at, put-before, put-in}
 use Rattle.matrix.proofs.Cells.{inside, row-end, length-at, cell-at, same-matrix}
 use Rattle.matrix.proofs.Products.{length-product, entry-product, terms-same, first-row}
 
@@ -31,7 +31,7 @@ module _ (n left : ℕ) (before : List Float) (length-is : length before ≡ 5 *
     left-cell : (k : ℕ) → k < n → entry n (take (left + i * n + n - (left + i * n)) (drop (left + i * n) now)) 0 k ≡ entry n (matrixAt n left before) i k
     left-cell k l =
         first-row n k (take (left + i * n + n - (left + i * n)) (drop (left + i * n) now))
-        ∙ part-at now (left + i * n) (left + i * n + n) k (omega arith)
+        ∙ part-at now (left + i * n) n k l
         ∙ p .same (left + i * n + k) (omega (arith, inside h l))
         ∙ ap (λ (m : ℕ). getD before m nan) (omega arith)
         ∙ sym (cell-at n left before (i * n + k) (inside h l))
@@ -62,7 +62,7 @@ module _ (n left : ℕ) (before : List Float) (length-is : length before ≡ 5 *
         within = omega (arith, p .len, row-end h)
 
         part-is : length (midOf into size now) ≡ n
-        part-is = mid-len into (into + n) now (omega (arith, p .len, row-end h)) ∙ counted into n
+        part-is = part-length now into n (omega (arith, p .len, row-end h))
 
         here : (j : ℕ) → j < n → getD (putMid into size now new) (2 * (n * n) + (i * n + j)) nan ≡ termSum n (matrixAt n left before) (matrixAt n 0 before) i j n
         here j l =

@@ -6,7 +6,7 @@ use mathlib.Core.List.{List}
 use lib.ListN.{length, getD, take, drop}
 use lib.Ieee.{Float, nan}
 use Rattle.numeric.specs.Double.{plus, times}
-use Rattle.matrix.specs.Matrix.{norm1, product, scaled, identity}
+use Rattle.matrix.specs.Matrix.{norm1, termSum, product, scaled, identity}
 use Rattle.matrix.specs.Exponential.{squarings, exponentialFinite}
 use Rattle.matrix.specs.declared.Exponentiated.{Exponentiated}
 use Rattle.matrix.specs.declared.Exponentiated.the-variants.{Done, NotFinite}
@@ -37,10 +37,29 @@ pub record Moved (size from into : ℕ) (before after : List Float) : Type 0 whe
   pub below : (j : ℕ) → j < into → getD after j nan ≡ getD before j nan
   pub above : (j : ℕ) → into + size ≤ j → getD after j nan ≡ getD before j nan
 
--- a row with left × right added to it, entry by entry
+-- sums with left × right added to them, entry by entry
 pub record Added (left : Float) (right before after : List Float) : Type 0 where
   pub len : length after ≡ length before
-  pub sums : (j : ℕ) → j < length right → getD after j nan ≡ plus (getD before j nan) (times left (getD right j nan))
+  pub sums : (l : ℕ) → l < length right
+      → getD after l nan ≡ plus (getD before l nan) (times left (getD right l nan))
+
+-- what a row of a product is made of: a row of the left matrix, and the right matrix
+pub record Factors (n : ℕ) (left right : List Float) : Type 0 where
+  pub small : n ≤ 67
+  pub left-long : length left ≡ n
+  pub right-long : length right ≡ n * n
+
+-- the sums of so many columns of that row, from column `from` on, after k of their terms
+pub record ColumnSums (n : ℕ) (left right : List Float) (from width : ℕ) (sums : List Float) (k : ℕ)
+    : Type 0 where
+  pub len : length sums ≡ width
+  pub sum : (l : ℕ) → l < width → getD sums l nan ≡ termSum n left right 0 (from + l) k
+
+-- that row with its columns before j filled
+pub record Filled (n : ℕ) (left right row : List Float) (j : ℕ) : Type 0 where
+  pub len : length row ≡ n
+  pub within : j ≤ n
+  pub column : (c : ℕ) → c < j → getD row c nan ≡ termSum n left right 0 c n
 
 -- the third matrix is the product of the one at `left` and the first; the first two are as they were
 pub record Multiplied (n left : ℕ) (before after : List Float) : Type 0 where

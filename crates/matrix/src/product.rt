@@ -1,40 +1,100 @@
-// The product of two matrices of a workspace. Rust's `multiply_into` works a row of the product out of
-// the rows of the right matrix; here the row is a local array, which is stored once it is whole.
+// The product of two matrices of a workspace. Rust's `multiply_into` works a row of the product out
+// of the rows of the right matrix. Here a row is filled by blocks of columns, and each block is summed
+// in a local array, so that its sums stay in registers. The row is stored once it is whole.
 ghost use mathlib.Core.Path.{_≡_};
 ghost use Prim.Native.Nat.{ℕ, _+_, _*_, _≤_, _<_};
 ghost use lib.Ieee.{nan};
 ghost use lib.ListN.{length, getD};
 ghost use Rattle.matrix.specs.Matrix.{termSum, product};
-ghost use Rattle.matrix.specs.Workspace.{matrixAt, Added, Multiplied, First};
+ghost use Rattle.matrix.specs.Workspace.{matrixAt, Added, Factors, ColumnSums, Filled};
+ghost use Rattle.matrix.specs.Workspace.{Multiplied, First};
 use crate::entries;
 
-// row + left * right, entry by entry.
-fn add_multiple(left: f64, right: &[f64], row: &mut [f64])
-    requires { ⌜ length (now row) ≡ length (now right) ⌝ }
-    ensures { λ _. ⌜ Added left (now (right .entry)) (now (row .entry)) (now (row .exit)) ⌝ }
+// sums + left * right, entry by entry.
+fn add_multiple(left: f64, right: &[f64], sums: &mut [f64])
+    requires { ⌜ length (now sums) ≡ length (now right) ⌝ }
+    ensures { λ _. ⌜ Added left (now (right .entry)) (now (sums .entry)) (now (sums .exit)) ⌝ }
 {
-    let mut j = 0;
-    while j < right.len() {
-        row[j] = row[j] + left * right[j];
-        j += 1;
+    let mut l = 0;
+    while l < right.len() {
+        sums[l] = sums[l] + left * right[l];
+        l += 1;
     }
 }
 
-// A row of the product: the left matrix's row times the right matrix. A left entry equal to zero is
-// skipped.
-fn product_row(dim: usize, left: &[f64], right: &[f64], row: &mut [f64])
-    requires { ⌜ (dim ≤ 67) × (length (now left) ≡ dim) × (length (now right) ≡ dim * dim) × (length (now row) ≡ dim) ⌝ }
-    ensures { λ _. ⌜ ((j : ℕ) → j < dim → getD (now (row .exit)) j nan ≡ termSum dim (now (left .entry)) (now (right .entry)) 0 j dim) ⌝ }
+// The sums of columns of a row of the product, from column `from` on and as many as sums has: the
+// left matrix's row times these columns of the right matrix. A left entry equal to zero is skipped.
+fn column_sums(dim: usize, left: &[f64], right: &[f64], from: usize, sums: &mut [f64])
+    requires { ⌜ Factors dim (now left) (now right) × (from + length (now sums) ≤ dim) ⌝ }
+    ensures { λ _. ⌜ ColumnSums dim (now (left .entry)) (now (right .entry))
+        from (length (now (sums .entry))) (now (sums .exit)) dim ⌝ }
 {
-    entries::clear(row);
+    let width = sums.len();
+    entries::clear(sums);
     let mut k = 0;
     while k < dim {
         let entry = left[k];
         if entry != 0.0 {
-            let at = k * dim;
-            add_multiple(entry, &right[at..at + dim], row);
+            let at = k * dim + from;
+            add_multiple(entry, &right[at..at + width], sums);
         }
         k += 1;
+    }
+}
+
+// Fills a block of a row whose columns before j are filled: from j on as many columns as sums has,
+// or the last ones of the row where fewer are left. Answers the column after the block.
+fn fill_block(
+    dim: usize,
+    left: &[f64],
+    right: &[f64],
+    j: usize,
+    sums: &mut [f64],
+    row: &mut [f64],
+) -> usize
+    requires { ⌜ (1 ≤ length (now sums)) × (length (now sums) ≤ dim) ⌝ }
+    requires { ⌜ Factors dim (now left) (now right) ⌝ }
+    requires { ⌜ (j < dim) × Filled dim (now left) (now right) (now row) j ⌝ }
+    ensures { λ r. ⌜ (j < r)
+        × Filled dim (now (left .entry)) (now (right .entry)) (now (row .exit)) r ⌝ }
+{
+    let width = sums.len();
+    let last = dim - width;
+    let from = if j < last { j } else { last };
+    column_sums(dim, left, right, from, sums);
+    let end = from + width;
+    entries::copy(sums, &mut row[from..end]);
+    end
+}
+
+// Fills the next block: one column of a row shorter than four, 12 where the row has them and more
+// than four are left, and four otherwise. These widths are what keeps the sums in registers.
+fn fill_next(dim: usize, left: &[f64], right: &[f64], j: usize, row: &mut [f64]) -> usize
+    requires { ⌜ Factors dim (now left) (now right) ⌝ }
+    requires { ⌜ (j < dim) × Filled dim (now left) (now right) (now row) j ⌝ }
+    ensures { λ r. ⌜ (j < r)
+        × Filled dim (now (left .entry)) (now (right .entry)) (now (row .exit)) r ⌝ }
+{
+    if dim < 4 {
+        let mut sums = [0.0; 1];
+        return fill_block(dim, left, right, j, &mut sums, row);
+    }
+    if 12 <= dim && j + 4 < dim {
+        let mut sums = [0.0; 12];
+        return fill_block(dim, left, right, j, &mut sums, row);
+    }
+    let mut sums = [0.0; 4];
+    fill_block(dim, left, right, j, &mut sums, row)
+}
+
+// A row of the product: the left matrix's row times the right matrix.
+fn product_row(dim: usize, left: &[f64], right: &[f64], row: &mut [f64])
+    requires { ⌜ (dim ≤ 67) × (length (now left) ≡ dim) × (length (now right) ≡ dim * dim) × (length (now row) ≡ dim) ⌝ }
+    ensures { λ _. ⌜ ((j : ℕ) → j < dim → getD (now (row .exit)) j nan ≡ termSum dim (now (left .entry)) (now (right .entry)) 0 j dim) ⌝ }
+{
+    let mut j = 0;
+    while j < dim {
+        j = fill_next(dim, left, right, j, row);
     }
 }
 

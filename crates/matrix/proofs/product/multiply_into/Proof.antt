@@ -9,7 +9,7 @@ use lib.Ieee.{Float, nan}
 use Rattle.matrix.specs.Matrix.{termSum}
 use Rattle.matrix.proofs.Rows.{Rows, rows-none, rows-more, rows-all}
 use Rattle.matrix.proofs.Cells.{row-end, small}
-use Rattle.matrix.proofs.Lists.{part-length, counted}
+use Rattle.matrix.proofs.Lists.{part-length}
 use Rattle.matrix.proofs.product.multiply_into.Statement.{statement}
 use Rattle.matrix.proofs.product.multiply_into.Tie as tie
 
@@ -103,7 +103,7 @@ product-row-requires c κs =
     let start = s .before .before .before in
     let from = start .args .left + s .before .loop .i * start .args .dim in (
       start .pre .0,
-      part-length (s .before .loop .work) from (from + start .args .dim) (omega (arith, bounds s)) ∙ counted from (start .args .dim),
+      part-length (s .before .loop .work) from (start .args .dim) (omega (arith, bounds s)),
       length-take-le _ (s .before .loop .work) (omega (arith, bounds s)),
       length-take-le _ (s .before .loop .row) (omega (arith, bounds s)),
     )
@@ -134,7 +134,7 @@ copy-requires c κs =
     let s = c .before .before .before .before .before .before .before .before in
     let n = s .before .before .before .args .dim in
     let into = 2 * (n * n) + s .before .loop .i * n in
-    ap length (row-is (c .before .before .before)) ∙ row-length (c .before .before .before) ∙ sym (part-length (s .before .loop .work) into (into + n) (omega (arith, bounds s)) ∙ counted into n)
+    ap length (row-is (c .before .before .before)) ∙ row-length (c .before .before .before) ∙ sym (part-length (s .before .loop .work) into n (omega (arith, bounds s)))
 
 add-i : tie.Need-add-i Inv-loop μ-loop
 add-i c = omega (arith, bounds (c .before .before .before .before .before .before .before .before .before .before .before))
