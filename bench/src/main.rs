@@ -1,35 +1,33 @@
 //! Times every call of the core beside the Rust that it ports: one process, the same inputs, medians of interleaved
-//! rounds. Compares the bits of the answers too. Writes the table of docs/PERFORMANCE.md, unless given `--dry`.
+//! rounds. Compares the bits of the answers too. Writes the table of docs/PERFORMANCE.md, unless given `--dry`, or
+//! `--only TEXT`, which takes the rows whose name contains the text.
 //!
 //! The Rust is the copy under oracle/ (its licence is in NOTICE). Its parameters, its schedule and its lists of draws
 //! are made outside the timed part, and it keeps no observations; the core does all of its work inside the call,
 //! questions, conversions and observations included.
 
+mod batches;
 mod inputs;
 #[allow(dead_code)]
 #[path = "../../oracle/src/optionstratlib/mod.rs"]
 mod optionstratlib;
 mod table;
 
+use batches::batches;
 use inputs::{Draws, dec, model, to_params, to_positive, to_rust, to_schedule, window};
 use optionstratlib::decimal::decimal_to_f64;
 use optionstratlib::quadratic_rough_heston::{
     QuadraticRoughHestonParams, QuadraticRoughHestonPath, Schedule as RustSchedule, Walk,
-    price_vanilla_quadratic_rough_heston,
 };
-use optionstratlib::quadratic_rough_heston_vix::{
-    Matrix, QuadraticRoughHestonVix, QuadraticRoughHestonVixPayoff, price_vix_quadratic_rough_heston, squarings_by_log2,
-};
-use optionstratlib::stand_in::OptionStyle;
-use qrh::{Decimal, Schedule, Tables, Vanilla, VixPayoff, workspace_length};
-use std::num::NonZeroUsize;
+use optionstratlib::quadratic_rough_heston_vix::{Matrix, QuadraticRoughHestonVix, squarings_by_log2};
+use qrh::{Decimal, Schedule, Tables, workspace_length};
 use std::process::ExitCode;
 use table::Table;
 
 const COUNT: usize = 4096;
 const FACTORS: [usize; 3] = [1, 5, 10];
 const STEPS: usize = 252;
-const PATHS: usize = 4096;
+const USAGE: &str = "bench/run.sh [--dry] [--only TEXT]";
 
 fn conversions(table: &mut Table) {
     // name, scales, sizes in bits
@@ -137,6 +135,15 @@ fn traces(table: &mut Table) {
     }
 }
 
+/// The dimension of ten factors.
+const WHOLE: usize = 67;
+
+/// The last rows and columns of the matrix of ten factors: such a block takes as many squarings as the whole.
+fn last_block(matrix: &[f64], dimension: usize) -> Vec<f64> {
+    let rows = matrix.chunks_exact(WHOLE).skip(WHOLE - dimension);
+    rows.flat_map(|row| row[WHOLE - dimension..].to_vec()).collect()
+}
+
 fn exponentials(table: &mut Table) {
     let model = model(10);
     let params = to_params(&model);
@@ -144,20 +151,25 @@ fn exponentials(table: &mut Table) {
     let generator = QuadraticRoughHestonVix::generator(&params, delta).expect("a generator").entries;
     let mut output = vec![0.0; generator.len()];
     let mut workspace = vec![0.0; workspace_length(10)];
-    table.compare(
-        "exponential, dimension 67",
-        "a call",
-        1,
-        |out| {
-            let matrix = Matrix::from_entries(67, &generator);
-            let exponential = matrix.exponential(squarings_by_log2).expect("memory").expect("a finite norm");
-            out.extend_from_slice(&exponential.entries);
-        },
-        |out| {
-            qrh::exponential(67, &generator, &mut output, &mut workspace).expect("a finite norm");
-            out.extend_from_slice(&output);
-        },
-    );
+    for dimension in [4, 7, 12, 20, 33, WHOLE] {
+        let entries = dimension * dimension;
+        let input = last_block(&generator, dimension);
+        table.compare(
+            format!("exponential, dimension {dimension}"),
+            "a call",
+            1,
+            |out| {
+                let matrix = Matrix::from_entries(dimension, &input);
+                let exponential = matrix.exponential(squarings_by_log2).expect("memory").expect("a finite norm");
+                out.extend_from_slice(&exponential.entries);
+            },
+            |out| {
+                let (output, workspace) = (&mut output[..entries], &mut workspace[..5 * entries]);
+                qrh::exponential(dimension, &input, output, workspace).expect("a finite norm");
+                out.extend_from_slice(output);
+            },
+        );
+    }
     let factors: Vec<_> = model.factors.iter().map(|factor| to_rust(*factor)).collect();
     table.compare(
         "VIX evaluation, n = 10",
@@ -171,85 +183,24 @@ fn exponentials(table: &mut Table) {
     );
 }
 
-fn batches(table: &mut Table) {
-    let schedule = Schedule::from([(dec("0.001"), STEPS as u32)]);
-    let rust_schedule = to_schedule(&schedule);
-    let paths = NonZeroUsize::new(PATHS).expect("some paths");
-    let strike = dec("100");
-    let draws = Draws::new(4).normals(PATHS * STEPS);
-    let half = &draws[..draws.len() / 2];
-    let lists: Vec<Vec<f64>> = draws.chunks_exact(STEPS).map(<[f64]>::to_vec).collect();
-    let pairs: Vec<Vec<f64>> =
-        half.chunks_exact(STEPS).flat_map(|list| [list.to_vec(), list.iter().map(|draw| -draw).collect()]).collect();
-    let mut observations = vec![0.0; PATHS];
-    for n in FACTORS {
-        let model = model(n);
-        let params = to_params(&model);
-        let mut workspace = vec![0.0; workspace_length(n)];
-        for (name, mirrored) in [("vanilla", false), ("mirrored", true)] {
-            let lists = if mirrored { &pairs } else { &lists };
-            table.compare(
-                format!("{name} batch, n = {n}"),
-                "a step",
-                PATHS * STEPS,
-                |out| {
-                    let price = price_vanilla_quadratic_rough_heston(
-                        &params,
-                        &rust_schedule,
-                        OptionStyle::Call,
-                        to_positive(strike),
-                        paths,
-                        lists,
-                    )
-                    .expect("a price");
-                    out.extend([price.price, price.standard_error]);
-                    out.extend([price.mean_terminal_spot, price.terminal_spot_standard_error]);
-                },
-                |out| {
-                    let call = Vanilla::call(strike);
-                    let price = if mirrored {
-                        qrh::mirrored(&model, &schedule, &call, PATHS, half, &mut observations)
-                    } else {
-                        qrh::vanilla(&model, &schedule, &call, PATHS, &draws, &mut observations)
-                    }
-                    .expect("a price");
-                    out.extend([price.price, price.price_error, price.spot_mean, price.spot_error]);
-                },
-            );
-        }
-        table.compare(
-            format!("VIX batch, n = {n}"),
-            "a step",
-            PATHS * STEPS,
-            |out| {
-                let vix = QuadraticRoughHestonVix::try_new(&params, to_positive(window()), squarings_by_log2);
-                let vix = vix.expect("finite moments");
-                let future = QuadraticRoughHestonVixPayoff::Future;
-                let price = price_vix_quadratic_rough_heston(&params, &rust_schedule, &vix, future, paths, &lists)
-                    .expect("a price");
-                out.extend([price.price, price.standard_error, price.future, price.future_standard_error]);
-            },
-            |out| {
-                let future = VixPayoff::Future;
-                let price = qrh::vix_batch(
-                    &model,
-                    &schedule,
-                    window(),
-                    &future,
-                    PATHS,
-                    &draws,
-                    &mut workspace,
-                    &mut observations,
-                )
-                .expect("a price");
-                out.extend([price.payoff, price.payoff_error, price.index, price.index_error]);
-            },
-        );
+/// Which rows are wanted, by a part of their names, and whether the table is to be written.
+fn asked() -> Option<(String, bool)> {
+    let words: Vec<String> = std::env::args().skip(1).collect();
+    let words: Vec<&str> = words.iter().map(String::as_str).collect();
+    match words[..] {
+        [] => Some((String::new(), true)),
+        ["--dry"] => Some((String::new(), false)),
+        ["--only", text] | ["--dry", "--only", text] => Some((text.to_string(), false)),
+        _ => None,
     }
 }
 
 fn main() -> ExitCode {
-    let mut table = Table::new();
+    let Some((only, written)) = asked() else {
+        eprintln!("{USAGE}");
+        return ExitCode::from(2);
+    };
+    let mut table = Table::new(only);
     conversions(&mut table);
     roots(&mut table);
     traces(&mut table);
@@ -259,7 +210,7 @@ fn main() -> ExitCode {
         println!("{} answers differ", table.differing);
         return ExitCode::FAILURE;
     }
-    if std::env::args().all(|word| word != "--dry") {
+    if written {
         table.write("docs/PERFORMANCE.md");
     }
     ExitCode::SUCCESS

@@ -22,6 +22,7 @@ struct Row {
 }
 
 pub struct Table {
+    only: String,
     rows: Vec<Row>,
     pub differing: usize,
 }
@@ -65,9 +66,10 @@ impl<F: FnMut(&mut Vec<f64>)> Side<F> {
 }
 
 impl Table {
-    pub fn new() -> Self {
+    /// Of the rows whose names contain `only`.
+    pub fn new(only: String) -> Self {
         println!("{:<40} {:>12} {:>12} {:>7}", "nanoseconds", "Rust", "core", "ratio");
-        Self { rows: Vec::new(), differing: 0 }
+        Self { only, rows: Vec::new(), differing: 0 }
     }
 
     /// Times two passes of `count` units each, in turn, and compares what they leave.
@@ -80,6 +82,9 @@ impl Table {
         core: impl FnMut(&mut Vec<f64>),
     ) {
         let name = name.into();
+        if !name.contains(&self.only) {
+            return;
+        }
         let (mut rust, mut core) = (Side::new(rust), Side::new(core));
         let passes = |time: f64| (ROUND.as_nanos() as f64 / time).ceil() as usize;
         // The first pass of either warms up.
