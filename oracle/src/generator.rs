@@ -1,6 +1,8 @@
 //! Cases from fixed seeds: typical, boundary and damaged inputs, and several refusals at once. The
 //! case with a given seed, call and index is always the same.
 
+mod fours;
+
 use crate::cases::{Case, Model};
 use crate::edge::{Decimal, GivenFactors, ModelInputs, ScheduleInputs, Segment, VixPayoff};
 use crate::questions::dimension;
@@ -8,7 +10,8 @@ use crate::questions::dimension;
 /// How large cases may become.
 #[derive(Debug, Clone, Copy)]
 pub struct Size {
-    /// Whether a case in some hundreds has 4,096 steps, 65,536 paths or dimension 67.
+    /// Whether a case in some hundreds has 4,096 steps, 65,536 paths or dimension 67, and every second batch several
+    /// groups of four paths.
     pub large: bool,
     /// Steps of an ordinary schedule of one to three segments.
     pub steps: u64,
@@ -36,13 +39,15 @@ pub fn case(seed: u64, call: usize, index: u64, size: Size) -> Case {
     let mut source = Source(seed ^ (call as u64) << 56);
     let start = source.next() ^ index.wrapping_mul(0x2545_F491_4F6C_DD1D);
     let mut source = Source(start);
+    let fours = size.large && index % 2 == 1;
     match call {
         0 => Case::Convert(source.decimal()),
         1 => Case::Sqrt(source.radicand()),
         2 => source.trace(size),
-        3 => source.vanilla(size, false),
-        4 => source.vanilla(size, true),
+        3 | 4 if fours => source.vanilla_of_fours(call == 4),
+        3 | 4 => source.vanilla(size, call == 4),
         5 => source.vix(size),
+        6 if fours => source.vix_batch_of_fours(),
         6 => source.vix_batch(size),
         7 => source.exponential(size),
         _ => panic!("no such call"),
@@ -226,6 +231,11 @@ impl Source {
             let coefficient = self.coefficient().max(1);
             return decimal(false, coefficient, self.below(29) as u8);
         }
+        self.close(value)
+    }
+
+    /// A positive Decimal around `value`.
+    fn close(&mut self, value: f64) -> Decimal {
         let places = 4 + self.below(12) as u8;
         let near = value * self.between(0.5, 1.5);
         let d = rounded(near, places);

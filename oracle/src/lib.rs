@@ -5,6 +5,7 @@ pub mod cases;
 pub mod edge;
 pub mod figures;
 pub mod generator;
+pub mod guess;
 #[allow(dead_code)]
 mod optionstratlib;
 pub mod questions;
