@@ -10,8 +10,8 @@ use crate::questions::dimension;
 /// How large cases may become.
 #[derive(Debug, Clone, Copy)]
 pub struct Size {
-    /// Whether a case in some hundreds has 4,096 steps, 65,536 paths or dimension 67, and every second batch several
-    /// groups of four paths.
+    /// Whether a case in some hundreds has 4,096 steps, 65,536 paths or dimension 67, and every
+    /// second batch several groups of four paths.
     pub large: bool,
     /// Steps of an ordinary schedule of one to three segments.
     pub steps: u64,

@@ -1,20 +1,21 @@
-//! The guess of a root that the core makes where it walks four paths side by side. Cases in which it is wrong are made
-//! with it; no answer depends on it.
+//! The guess of a root that the core makes where it walks four paths side by side. Cases in which
+//! it is wrong are made with it; no answer depends on it.
 //!
-//! It is wrong about once in two million, but within some 100,000 units of the last place of a power of four about
-//! once in five. It is never asked for the root of a subnormal number: a variance is at least c, which has at most 28
-//! places.
+//! It is wrong about once in two million, but within some 100,000 units of the last place of a
+//! power of four about once in five. It is never asked for the root of a subnormal number: a
+//! variance is at least c, which has at most 28 places.
 
-/// About √x, as `near_root` of crates/numeric/src/root.rt has it.
+/// About √x, as `near_root` of crates/numeric/src/root.rt has it, with its constants.
 #[must_use]
+#[allow(clippy::excessive_precision)]
 pub fn near_root(x: f64) -> f64 {
     let h = 0.5 * x;
     let bits = if x.is_nan() { 0 } else { x.to_bits() };
     let half = (bits >> 1) % 0x4000_0000_0000_0000;
     let r0 = f64::from_bits(0x5fe6_ed21_02dc_bfda - half);
-    let r1 = 1.500_878_955_116_334_57 * r0 - h * r0 * (r0 * r0);
-    let c = 134_217_728.0 * r1 * x;
-    let r = 1.500_000_579_676_257_66 * r1 - h * r1 * (r1 * r1);
+    let r1 = 1.50087895511633457 * r0 - h * r0 * (r0 * r0);
+    let c = 134217728.0 * r1 * x;
+    let r = 1.50000057967625766 * r1 - h * r1 * (r1 * r1);
     let s = x * r;
     let upper = (s + c) - c;
     let rest = (x - upper * upper) - (s + upper) * (s - upper);

@@ -1,4 +1,5 @@
-//! What a walk of four paths side by side could get wrong occurs often enough among the generated batches.
+//! What a walk of four paths side by side could get wrong occurs often enough among the generated
+//! batches.
 
 use oracle::calls;
 use oracle::cases::{CALLS, Case, Model, Outcome};

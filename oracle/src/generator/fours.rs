@@ -1,5 +1,5 @@
-//! Batches of several groups of four paths. In chosen paths, at chosen steps, something happens that a walk of four
-//! paths side by side could get wrong.
+//! Batches of several groups of four paths. In chosen paths, at chosen steps, something happens
+//! that a walk of four paths side by side could get wrong.
 
 use super::{Source, WILD, decimal};
 use crate::cases::{Case, Model};
@@ -141,7 +141,7 @@ impl Source {
         schedule
     }
 
-    /// A path, from 0: of the first, the middle or the last group of four, or of those that are left over.
+    /// A path, from 0: of the first, the middle or the last group of four, or of those left over.
     fn member(&mut self, paths: usize) -> usize {
         let groups = paths / 4;
         let group = self.pick(&[0, groups / 2, groups.saturating_sub(1), groups]);
@@ -160,7 +160,7 @@ impl Source {
         }
     }
 
-    /// A path whose variance grows by usual draws until it is not finite; those of all others are tiny.
+    /// A path whose variance grows by usual draws until it is not finite; all other draws are tiny.
     fn grow(&mut self, batch: &mut Batch) {
         batch.model.inputs.a = self.close(1.0);
         batch.model.inputs.eta = self.close(1e15);
@@ -173,7 +173,8 @@ impl Source {
         grown.iter_mut().for_each(|draw| *draw *= 1e16);
     }
 
-    /// Lets the spot move by spot × draw: the root of the variance is 2, that of dt a half. Draws are below one.
+    /// Lets the spot move by spot × draw: the root of the variance is 2, that of dt a half. Draws
+    /// are below one.
     fn move_by_draws(&mut self, batch: &mut Batch) {
         batch.model.inputs.a = self.zero();
         batch.model.inputs.c = decimal(false, 4, 0);
@@ -194,7 +195,8 @@ impl Source {
         }
     }
 
-    /// A path whose spot is zero, so that it goes on at a draw where others stop: the second of a mirrored pair does.
+    /// A path whose spot is zero, so that it goes on at a draw where others stop: the second of a
+    /// mirrored pair does.
     fn outlive(&mut self, batch: &mut Batch) {
         self.move_by_draws(batch);
         batch.model.inputs.eta = decimal(false, 1, 3);
@@ -215,28 +217,37 @@ impl Source {
         list[step] = self.spread(480, 522);
     }
 
-    /// Every variance is c, whose root is guessed wrong.
+    /// The first variance is c, with z at b.
+    fn start_at_c(&mut self, batch: &mut Batch, c: Decimal) {
+        let inputs = &mut batch.model.inputs;
+        inputs.b = self.zero();
+        inputs.c = c;
+        inputs.factors = [self.zero(); 10];
+    }
+
+    /// The root of the first variance, or of every one, is guessed wrong.
     fn guess_wrong_at_once(&mut self, batch: &mut Batch) {
-        batch.model.inputs.a = self.zero();
-        batch.model.inputs.c = decimal(false, self.pick(&guess::WRONG).into(), 9);
+        let c = decimal(false, self.pick(&guess::WRONG).into(), 9);
+        self.start_at_c(batch, c);
+        if self.flip() {
+            batch.model.inputs.a = self.zero();
+        }
         if self.flip() {
             self.stop(batch);
         }
     }
 
-    /// Paths whose variance is a power of four up to a step, and then just above it, where roots are often guessed
-    /// wrong.
+    /// In each path the variance is a power of four up to a step, and then just above it, where one
+    /// root in five is guessed wrong.
     fn guess_wrong_later(&mut self, batch: &mut Batch) {
-        let inputs = &mut batch.model.inputs;
-        inputs.b = self.zero();
-        inputs.c = decimal(false, self.pick(&[625, 2_500, 10_000, 40_000]), 4);
-        inputs.factors = [self.zero(); 10];
-        for _ in 0..1 + self.below(3) {
-            let path = self.member(batch.paths);
-            let step = self.place(&batch.schedule, batch.total());
-            let list = batch.list(path);
+        let power = self.below(8) as u32;
+        let c = decimal(false, 25_u128.pow(power), 2 * power as u8);
+        self.start_at_c(batch, c);
+        let total = batch.total();
+        for list in batch.draws.chunks_exact_mut(total) {
+            let step = self.place(&batch.schedule, total);
             list[..step].fill(0.0);
-            list[step..].iter_mut().for_each(|draw| *draw *= 1e-5);
+            list[step] *= 1e-5;
         }
     }
 }
