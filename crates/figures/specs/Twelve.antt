@@ -1,28 +1,28 @@
--- "The twelve P figures form one computed list of the definitions with one theorem": P1 to P12 of document 01, as the outer calls answer them.
--- "here n = 1, weight 1, discount 4, a = 1, b = 0, c = 4, lambda = eta = 1, spot 100, factor 0, dt 0.25"
+-- "The twelve P figures form one computed list of the definitions with one theorem": P1 to P12 of
+-- document 01, as the outer calls answer them. They are proved here and nowhere else. Every double,
+-- given or expected, stands by its bits, so that no figure rests on the conversion that it checks.
 use mathlib.Core.Path.{_≡_, refl}
 use mathlib.Core.Bool.{false}
 use mathlib.Core.List.{List, [], _∷_}
-use Prim.Native.Nat.{ℕ}
-use lib.IntN.{pos, negsuc}
+use Prim.Native.Nat.{ℕ, _/_, _%_, _^_}
 use lib.ListN.{getD, replicate}
-use lib.Ieee.{Float, nan, inf, fin, binary64, ofBits, round}
+use lib.Ieee.{Float, nan, binary64, ofBits, round}
 use Rattle.numeric.specs.Root.{root}
 use Rattle.decimal.specs.declared.Decimal.{Decimal}
 use Rattle.decimal.specs.Decimal.{value, convert, isNegative, isPositive, scaleFits}
-use Rattle.numeric.specs.Double.{plusZero}
-use Rattle.decimal.specs.Figures as decimals
 use Rattle.refusal.specs.Questions.{firstNo, each}
 use Rattle.model.specs.declared.Params.{Params}
+use Rattle.model.specs.declared.Segments.{Segments}
 use Rattle.model.specs.Kernel.{inRange}
 use Rattle.doors.specs.Questions.{rangeQuestions, scaleQuestions}
 use Rattle.model.specs.Schedule.{stepsThrough}
-use Rattle.model.specs.Figures.{decimal, negative, kernel, params, oneStep}
-use Rattle.doors.specs.Model.{given}
+use Rattle.doors.specs.Model.{Model, given}
 use Rattle.model.specs.Trace.{Tables, tables, tableAfter}
 use Rattle.matrix.specs.Call.{exponentialCall, exponentialTable}
 use Rattle.refusal.specs.Refusal.{noPlace}
-use Rattle.terminal.specs.Answers.{conversion, traced, vanillaAnswer, exponentialAnswer, evaluatedAnswer}
+use Rattle.terminal.specs.Answers.{conversion, traced, vanillaAnswer}
+use Rattle.terminal.specs.Answers.{exponentialAnswer, evaluatedAnswer}
+use Rattle.calls.specs.declared.Factors.{Factors}
 use Rattle.calls.specs.Trace.{traceCall, traceTables}
 use Rattle.calls.specs.Vanilla.{vanillaInputs, vanillaCall}
 use Rattle.calls.specs.VixCall.{vixInputs, vixCall}
@@ -35,7 +35,49 @@ pub record Figure : Type 0 where
   pub wholes : List ℕ
 
 abbrev pub figure : ℕ → List ℕ → List Float → List ℕ → Figure
-figure number place doubles wholes = record { number = number; place = place; doubles = doubles; wholes = wholes }
+figure number place doubles wholes =
+    record { number = number; place = place; doubles = doubles; wholes = wholes }
+
+-- the double of these bits
+abbrev pub bits : ℕ → Float
+bits pattern = ofBits binary64 pattern
+
+-- coefficient / 10 ^ scale
+abbrev pub decimal : ℕ → ℕ → Decimal
+decimal coefficient scale =
+    record {
+      low = coefficient % 2 ^ 64;
+      high = coefficient / 2 ^ 64;
+      scale = scale;
+      negative = false;
+    }
+
+-- ---- "here n = 1, weight 1, discount 4, a = 1, b = 0, c = 4, lambda = eta = 1, spot 100,
+-- factor 0, dt 0.25"
+abbrev pub weights : List Float
+weights = bits 0x3FF0000000000000 ∷ []
+
+abbrev pub discounts : List Float
+discounts = bits 0x4010000000000000 ∷ []
+
+abbrev pub params : ℕ → Params
+params a =
+    record {
+      a = decimal a 0;
+      b = decimal 0 0;
+      c = decimal 4 0;
+      lambda = decimal 1 0;
+      eta = decimal 1 0;
+      spot = decimal 100 0;
+      «factor_count» = 1;
+      factors = decimal 0 0 ∷ [];
+    }
+
+abbrev pub oneStep : Segments
+oneStep = record { count = 1; segments = record { dt = decimal 25 2; steps = 1 } ∷ [] }
+
+abbrev pub model : Model
+model = given weights discounts (params 1) oneStep
 
 -- ---- the calls
 
@@ -45,50 +87,47 @@ converted d = let a = conversion (convert d) in figure (a .number) (a .place) (a
 abbrev pub rooted : Float → Figure
 rooted x = figure 0 noPlace (root binary64 x ∷ []) []
 
--- a trace of one step: spot, factor, z and variance after it
-abbrev pub lent : Tables
-lent = let two = plusZero ∷ plusZero ∷ [] in tables two two two two
+-- a table of so many zeros, to be written
+abbrev pub lent : ℕ → List Float
+lent length = replicate length (bits 0)
 
-abbrev pub stepped : Decimal → Figure
+-- what a trace of one step has written last
+abbrev pub after : List Float → Float
+after table = getD table 1 nan
+
+-- a trace of one step: spot, factor, z and variance after it
+abbrev pub stepped : Float → Figure
 stepped draw =
-    let m = given (kernel .weights) (kernel .discounts) params oneStep in
-    let draws = value draw ∷ [] in
-    let a = traced (traceCall m draws lent) in
-    let t = traceTables m draws lent in
-    figure (a .number) (a .place) (getD (t .spots) 1 nan ∷ getD (t .factors) 1 nan ∷ getD (t .zs) 1 nan ∷ getD (t .variances) 1 nan ∷ [])
+    let draws = draw ∷ [] in
+    let room = tables (lent 2) (lent 2) (lent 2) (lent 2) in
+    let a = traced (traceCall model draws room) in
+    let t = traceTables model draws room in
+    figure (a .number) (a .place)
+    (after (t .spots) ∷ after (t .factors) ∷ after (t .zs) ∷ after (t .variances) ∷ [])
     (a .steps ∷ [])
 
 -- a call at 100 over two paths of one step
 abbrev pub priced : List Float → Figure
 priced draws =
-    let m = given (kernel .weights) (kernel .discounts) params oneStep in
-    let a = vanillaAnswer (vanillaCall (vanillaInputs m false (decimal 100 0) false 2 draws) (plusZero ∷ plusZero ∷ [])) in
-    figure (a .number) (a .place) (a .price ∷ a .«price_error» ∷ a .«spot_mean» ∷ a .«spot_error» ∷ [])
+    let i = vanillaInputs model false (decimal 100 0) false 2 draws in
+    let a = vanillaAnswer (vanillaCall i (lent 2)) in
+    figure (a .number) (a .place)
+    (a .price ∷ a .«price_error» ∷ a .«spot_mean» ∷ a .«spot_error» ∷ [])
     (a .paths ∷ a .«non_positive» ∷ a .steps ∷ [])
 
+-- a matrix of dimension 2
 abbrev pub powered : List Float → Figure
 powered input =
-    let zeros = replicate 4 plusZero in
     let a = exponentialAnswer (exponentialCall 2 input 4 20) in
-    figure (a .number) (a .place) (exponentialTable 2 input zeros 20) (a .squarings ∷ [])
+    figure (a .number) (a .place) (exponentialTable 2 input (lent 4) 20) (a .squarings ∷ [])
 
 -- with a = 0, at the factor 0
-abbrev pub calm : Params
-calm =
-    record {
-      a = decimal 0 0;
-      b = params .b;
-      c = params .c;
-      lambda = params .lambda;
-      eta = params .eta;
-      spot = params .spot;
-      «factor_count» = 1;
-      factors = params .factors;
-    }
+abbrev pub factorZero : Factors
+factorZero = record { count = 1; factors = decimal 0 0 ∷ [] }
 
 abbrev pub evaluated : Decimal → Figure
 evaluated window =
-    let i = vixInputs (kernel .weights) (kernel .discounts) calm window (record { count = 1; factors = decimal 0 0 ∷ [] }) in
+    let i = vixInputs weights discounts (params 0) window factorZero in
     let a = evaluatedAnswer (vixCall i 80) in
     figure (a .number) (a .place) (a .squared ∷ a .index ∷ []) []
 
@@ -99,53 +138,79 @@ answered =
     converted (decimal 1 1)
     ∷ converted (decimal 9007199254740993 0)
     ∷ converted (decimal 9007199254740995 0)
-    ∷ converted (decimals.decimal false 90071992547409930000001 7)
+    ∷ converted (decimal 90071992547409930000001 7)
     ∷ converted (decimal 0 29)
     ∷ converted (decimal 1 29)
-    ∷ rooted (fin false 1 (negsuc 1073))
-    ∷ stepped (decimal 5 1)
-    ∷ stepped (negative 1 0)
-    ∷ priced (value (decimal 5 1) ∷ value (negative 1 0) ∷ [])
-    ∷ priced (value (decimal 5 1) ∷ inf false ∷ [])
-    ∷ powered (plusZero ∷ value (decimal 1 0) ∷ plusZero ∷ plusZero ∷ [])
+    -- 2^-1074
+    ∷ rooted (bits 1)
+    -- 0.5; -1; both; 0.5 and infinity
+    ∷ stepped (bits 0x3FE0000000000000)
+    ∷ stepped (bits 0xBFF0000000000000)
+    ∷ priced (bits 0x3FE0000000000000 ∷ bits 0xBFF0000000000000 ∷ [])
+    ∷ priced (bits 0x3FE0000000000000 ∷ bits 0x7FF0000000000000 ∷ [])
+    -- [0 1; 0 0]
+    ∷ powered (bits 0 ∷ bits 0x3FF0000000000000 ∷ bits 0 ∷ bits 0 ∷ [])
     ∷ evaluated (decimal 25 2)
     ∷ []
 
 abbrev pub expected : List Figure
 expected =
-    -- "P1 1 at scale 1: bits 3FB999999999999A (hexadecimal). P2 9007199254740993: 9007199254740992. P3 9007199254740995: 9007199254740996.
-    -- P4 90071992547409930000001 at scale 7: 9007199254740994. P5 zero, scale 29: +0.0; one, scale 29: refusal 1."
-    -- (those of P2 to P4 as significand × 2 ^ exponent)
-    figure 0 noPlace (ofBits binary64 0x3FB999999999999A ∷ []) []
-    ∷ figure 0 noPlace (fin false 1 (pos 53) ∷ []) []
-    ∷ figure 0 noPlace (fin false 2251799813685249 (pos 2) ∷ []) []
-    ∷ figure 0 noPlace (fin false 4503599627370497 (pos 1) ∷ []) []
-    ∷ figure 0 noPlace (plusZero ∷ []) []
-    ∷ figure 1 noPlace (plusZero ∷ []) []
+    -- "P1 1 at scale 1: bits 3FB999999999999A (hexadecimal). P2 9007199254740993:
+    -- 9007199254740992. P3 9007199254740995: 9007199254740996. P4 90071992547409930000001 at
+    -- scale 7: 9007199254740994. P5 zero, scale 29: +0.0; one, scale 29: refusal 1."
+    figure 0 noPlace (bits 0x3FB999999999999A ∷ []) []
+    ∷ figure 0 noPlace (bits 0x4340000000000000 ∷ []) []
+    ∷ figure 0 noPlace (bits 0x4340000000000002 ∷ []) []
+    ∷ figure 0 noPlace (bits 0x4340000000000001 ∷ []) []
+    ∷ figure 0 noPlace (bits 0 ∷ []) []
+    ∷ figure 1 noPlace (bits 0 ∷ []) []
     -- "P6 root of 2^-1074 is 2^-537."
-    ∷ figure 0 noPlace (fin false 1 (negsuc 536) ∷ []) []
-    -- "P7 draw 0.5: spot 150, factor and z 0.25, variance 4.0625. P8 draw -1: spot 0, z -0.5, variance 4.25."
-    ∷ figure 0 noPlace (value (decimal 150 0) ∷ value (decimal 25 2) ∷ value (decimal 25 2) ∷ value (decimal 40625 4) ∷ []) (1 ∷ [])
-    ∷ figure 0 noPlace (value (decimal 0 0) ∷ value (negative 5 1) ∷ value (negative 5 1) ∷ value (decimal 425 2) ∷ []) (1 ∷ [])
-    -- "P9 both as two paths, call at 100: price 25, error 25, spot mean 75, error 75, one non-positive, 2 steps.
-    -- P10 second draw infinite: 22, path 2, step 1, spot, 2 steps."
-    ∷ figure 0 noPlace (value (decimal 25 0) ∷ value (decimal 25 0) ∷ value (decimal 75 0) ∷ value (decimal 75 0) ∷ []) (2 ∷ 1 ∷ 2 ∷ [])
-    ∷ figure 22 (2 ∷ 1 ∷ 1 ∷ 2 ∷ []) (plusZero ∷ plusZero ∷ plusZero ∷ plusZero ∷ []) (0 ∷ 0 ∷ 2 ∷ [])
+    ∷ figure 0 noPlace (bits 0x1E60000000000000 ∷ []) []
+    -- "P7 draw 0.5: spot 150, factor and z 0.25, variance 4.0625. P8 draw -1: spot 0, z -0.5,
+    -- variance 4.25."
+    ∷ figure 0 noPlace
+    (bits 0x4062C00000000000
+    ∷ bits 0x3FD0000000000000
+    ∷ bits 0x3FD0000000000000
+    ∷ bits 0x4010400000000000
+    ∷ [])
+    (1 ∷ [])
+    ∷ figure 0 noPlace
+    (bits 0 ∷ bits 0xBFE0000000000000 ∷ bits 0xBFE0000000000000 ∷ bits 0x4011000000000000 ∷ [])
+    (1 ∷ [])
+    -- "P9 both as two paths, call at 100: price 25, error 25, spot mean 75, error 75,
+    -- one non-positive, 2 steps. P10 second draw infinite: 22, path 2, step 1, spot, 2 steps."
+    ∷ figure 0 noPlace
+    (bits 0x4039000000000000
+    ∷ bits 0x4039000000000000
+    ∷ bits 0x4052C00000000000
+    ∷ bits 0x4052C00000000000
+    ∷ [])
+    (2 ∷ 1 ∷ 2 ∷ [])
+    ∷ figure 22 (2 ∷ 1 ∷ 1 ∷ 2 ∷ []) (bits 0 ∷ bits 0 ∷ bits 0 ∷ bits 0 ∷ []) (0 ∷ 0 ∷ 2 ∷ [])
     -- "P11 [0 1; 0 0]: one squaring, [1 1; 0 1]."
-    ∷ figure 0 noPlace (value (decimal 1 0) ∷ value (decimal 1 0) ∷ plusZero ∷ value (decimal 1 0) ∷ []) (1 ∷ [])
+    ∷ figure 0 noPlace
+    (bits 0x3FF0000000000000 ∷ bits 0x3FF0000000000000 ∷ bits 0 ∷ bits 0x3FF0000000000000 ∷ [])
+    (1 ∷ [])
     -- "P12 a = 0, window 0.25: VIX squared 40000, index 200."
-    ∷ figure 0 noPlace (value (decimal 40000 0) ∷ value (decimal 200 0) ∷ []) []
+    ∷ figure 0 noPlace (bits 0x40E3880000000000 ∷ bits 0x4069000000000000 ∷ []) []
     ∷ []
 
 -- one figure after the other
-next : {x y : Figure} {xs ys : List Figure} → x ≡ y → xs ≡ ys → _≡_ {A = List Figure} (x ∷ xs) (y ∷ ys)
+next :
+    {x y : Figure} {xs ys : List Figure} → x ≡ y → xs ≡ ys → _≡_ {A = List Figure} (x ∷ xs) (y ∷ ys)
 next e f = cc
 
 pub figures : answered ≡ expected
-unfolding convert root ofBits round value traceCall traceTables vanillaCall exponentialCall exponentialTable vixCall firstNo each inRange rangeQuestions scaleQuestions stepsThrough isNegative isPositive scaleFits tableAfter
+unfolding convert root ofBits round value isNegative isPositive scaleFits
+    firstNo each inRange rangeQuestions scaleQuestions stepsThrough tableAfter
+    traceCall traceTables vanillaCall exponentialCall exponentialTable vixCall
 figures =
     next refl
     (next refl
     (next refl
     (next refl
-    (next refl (next refl (next refl (next refl (next refl (next refl (next refl (next refl (next refl refl))))))))))))
+    (next refl
+    (next refl
+    (next refl
+    (next refl (next refl (next refl (next refl (next refl (next refl refl))))))))))))

@@ -3,27 +3,14 @@ use mathlib.Core.Path.{_≡_, refl}
 use mathlib.Core.Bool.{true, false}
 use mathlib.Core.List.{List, [], _∷_}
 use lib.IntN.{pos, negsuc}
-use lib.ListN.{replicate}
 use lib.Ieee.{Float, fin}
 use Rattle.numeric.specs.Double.{one, plusZero}
 use Rattle.matrix.specs.Matrix.{entry}
 use Rattle.matrix.specs.Exponential.{squarings, exponential, exponentialFinite}
 use Rattle.refusal.specs.declared.Refusal.the-variants.{Plain}
-use Rattle.matrix.specs.declared.Answer.the-variants.{Done, Refused}
+use Rattle.matrix.specs.declared.Answer.the-variants.{Refused}
 use Rattle.refusal.specs.Questions.{firstNo}
-use Rattle.matrix.specs.Call.{exponentialCall, exponentialTable}
-
--- P11 [0 1; 0 0]: one squaring, [1 1; 0 1]
-unfoldable pub nilpotent : List Float
-nilpotent = plusZero ∷ one ∷ plusZero ∷ plusZero ∷ []
-
-p11 : exponentialCall 2 nilpotent 4 20 ≡ Done 1
-unfolding nilpotent exponentialCall firstNo
-p11 = refl
-
-p11-matrix : exponentialTable 2 nilpotent (replicate 4 plusZero) 20 ≡ one ∷ one ∷ plusZero ∷ one ∷ []
-unfolding nilpotent exponentialTable firstNo
-p11-matrix = refl
+use Rattle.matrix.specs.Call.{exponentialCall}
 
 -- norm 0.5: no squaring
 norm-half : squarings (fin false 1 (negsuc 0)) ≡ 0

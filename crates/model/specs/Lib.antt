@@ -8,4 +8,4 @@ pub mod Laid
 pub mod Admitted
 pub mod Laws
 pub mod Trace
-pub mod Figures
+pub mod Samples

