@@ -1,25 +1,11 @@
-/* Calls every function that include/qrh.h declares, on values with known answers, and has every refusal answered
-   once: its number, its place, and what the tables then hold. A table begins as sevens. */
-#include "qrh.h"
+/* Calls every function that include/qrh.h declares, on values with known answers, and has every
+   refusal answered once: its number, its place, and what the tables then hold. A table begins as
+   sevens. The last line is 'N passed, M failed'. */
+#include "layout.h"
 #include <math.h>
 #include <stdio.h>
 #include <stdlib.h>
 #include <string.h>
-
-_Static_assert(sizeof(qrh_decimal) == 16, "qrh_decimal");
-_Static_assert(offsetof(qrh_decimal, high) == 8 && offsetof(qrh_decimal, scale) == 12, "qrh_decimal");
-_Static_assert(offsetof(qrh_decimal, negative) == 13, "qrh_decimal");
-_Static_assert(sizeof(qrh_model) == 264 && offsetof(qrh_model, factor_count) == 96, "qrh_model");
-_Static_assert(sizeof(qrh_segment) == 24 && offsetof(qrh_segment, steps) == 16, "qrh_segment");
-_Static_assert(sizeof(qrh_schedule) == 1544, "qrh_schedule");
-_Static_assert(sizeof(qrh_factors) == 168, "qrh_factors");
-_Static_assert(sizeof(qrh_vix_payoff) == 24 && offsetof(qrh_vix_payoff, strike) == 8, "qrh_vix_payoff");
-_Static_assert(sizeof(qrh_conversion) == 48 && offsetof(qrh_conversion, place) == 8, "qrh_conversion");
-_Static_assert(sizeof(qrh_tracing) == 48, "qrh_tracing");
-_Static_assert(sizeof(qrh_estimate) == 96 && offsetof(qrh_estimate, paths) == 72, "qrh_estimate");
-_Static_assert(sizeof(qrh_vix_value) == 56, "qrh_vix_value");
-_Static_assert(sizeof(qrh_vix_estimate) == 88, "qrh_vix_estimate");
-_Static_assert(sizeof(qrh_exponentiation) == 48, "qrh_exponentiation");
 
 static int checked, failures;
 static int seen[27];
@@ -58,7 +44,8 @@ typedef struct {
     size_t paths, table_length, factors_length, workspace_length;
 } inputs;
 
-static const double ONE[11] = {1, 1, 1, 1, 1, 1, 1, 1, 1, 1, 1}, FOUR[1] = {4}, UP_DOWN[2] = {0.5, -1.0};
+static const double ONE[11] = {1, 1, 1, 1, 1, 1, 1, 1, 1, 1, 1}, TWO[1] = {2}, FOUR[1] = {4};
+static const double UP_DOWN[2] = {0.5, -1.0};
 
 static inputs figures(void) {
     inputs i = {
@@ -89,6 +76,20 @@ static inputs one_step(void) {
     return i;
 }
 
+/* Two steps from inputs that differ: z is 1 and the variance 4 at the start. */
+static inputs uneven(void) {
+    inputs i = figures();
+    const qrh_decimal half = decimal(false, 0, 5, 1), three_halves = decimal(false, 0, 15, 1);
+    i.weights = TWO;
+    i.model = (qrh_model){whole(8), half, whole(2), whole(3), three_halves, whole(100), 1, {half}};
+    i.schedule.segments[0].steps = 2;
+    i.strike = whole(110);
+    i.window = decimal(false, 0, 625, 4);
+    i.payoff.strike = whole(500);
+    i.given.factors[0] = QUARTER;
+    return i;
+}
+
 static double *sevens(size_t length) {
     double *t = malloc(length * sizeof *t + (length == 0));
     if (!t) exit(2);
@@ -99,6 +100,12 @@ static double *sevens(size_t length) {
 static bool untouched(const double *t, size_t from, size_t length) {
     for (size_t k = from; k < length; k++)
         if (t[k] != 7) return false;
+    return true;
+}
+
+static bool holds(const double *t, const double *expected, size_t length) {
+    for (size_t k = 0; k < length; k++)
+        if (t[k] != expected[k]) return false;
     return true;
 }
 
@@ -316,6 +323,81 @@ static void exponentials(void) {
     free(output), free(workspace);
 }
 
+/* A contract goes by names and C by places. So in these answers no two values are equal, nor two
+   tables, and the inputs differ: whatever stands in another's place is seen. Figures of many
+   digits are the Rust's. */
+static void places_of_a_trace(void) {
+    const double draws[2] = {0.25, 0};
+    const double spots[3] = {100, 125, 125}, variances[3] = {4, 3.125, 4.2578125};
+    const double z[3] = {1, 0.125, -0.03125}, factors[3] = {0.5, 0.0625, -0.015625};
+    inputs i = uneven();
+    i.draws = draws;
+    i.table_length = i.factors_length = 3;
+    answer a = trace(&i);
+    expect("a trace of draws 0.25, 0: 2 steps", a.number == 0 && a.steps == 2);
+    expect("... spots 100, 125, 125", holds(a.table, spots, 3));
+    expect("... variances 4, 3.125, 4.2578125", holds(a.more[0], variances, 3));
+    expect("... z 1, 0.125, -0.03125", holds(a.more[1], z, 3));
+    expect("... factors 0.5, 0.0625, -0.015625", holds(a.more[2], factors, 3));
+    forget(&a);
+}
+
+/* Three paths that rise and one that falls, two steps each. */
+static const double FALL[8] = {0.5, 0, 0.5, 0, 0.5, 0, -1, 0};
+
+static inputs rises_and_a_fall(void) {
+    inputs i = uneven();
+    i.paths = i.table_length = 4;
+    i.draws = FALL, i.draws_length = 8;
+    return i;
+}
+
+static void places_of_a_batch(void) {
+    const double spots[4] = {150, 150, 150, 0}, mirrors[4] = {150, 50, 150, 50};
+    inputs i = rises_and_a_fall();
+    answer a = vanilla(&i);
+    qrh_estimate e = last_estimate;
+    expect("a call over three rises and a fall: price 30", e.number == 0 && e.price == 30);
+    expect("... its error 10", e.price_error == 10);
+    expect("... spot mean 112.5", e.spot_mean == 112.5);
+    expect("... its error 37.5", e.spot_error == 37.5);
+    expect("... 4 paths", e.paths == 4);
+    expect("... one non-positive", e.non_positive == 1);
+    expect("... 8 steps", e.steps == 8);
+    expect("... observations 150, 150, 150, 0", holds(a.table, spots, 4));
+    forget(&a);
+    i.draws_length = 4;
+    a = mirrored(&i);
+    e = last_estimate;
+    expect("a call over two rises, mirrored: price 20", e.number == 0 && e.price == 20);
+    expect("... its error 11.5", e.price_error == 11.547005383792516);
+    expect("... spot mean 100", e.spot_mean == 100);
+    expect("... its error 28.9", e.spot_error == 28.867513459481287);
+    expect("... 4 paths, none non-positive", e.paths == 4 && e.non_positive == 0);
+    expect("... 8 steps", e.steps == 8);
+    expect("... observations 150, 50, 150, 50", holds(a.table, mirrors, 4));
+    forget(&a);
+}
+
+static void places_of_the_vix(void) {
+    const double high = 503994.26999495522, squares[4] = {high, high, high, 218043.22553273573};
+    inputs i = rises_and_a_fall();
+    answer a = vix(&i);
+    qrh_vix_value x = last_vix;
+    expect("the VIX at 0.25: squared 210108", x.number == 0 && x.squared == 210107.75256414909);
+    expect("... index 458.4", x.index == 458.37512210431873);
+    a = vix_batch(&i);
+    qrh_vix_estimate v = last_vix_estimate;
+    expect("a call on it: payoff 157.4", v.number == 0 && v.payoff == 157.44415375902315);
+    expect("... its error 52.5", v.payoff_error == 52.481384586341051);
+    expect("... index 649.2", v.index == 649.18190084965352);
+    expect("... its error 60.7", v.index_error == 60.743637495710672);
+    expect("... 4 paths", v.paths == 4);
+    expect("... 8 steps", v.steps == 8);
+    expect("... observations 503994 thrice, 218043", holds(a.table, squares, 4));
+    forget(&a);
+}
+
 static void models(void) {
     inputs i = one_step();
     i.weights = 0, i.weights_length = 0;
@@ -444,6 +526,13 @@ static void stops(void) {
     i.draws = infinite;
     refused("spot, path 2, step 1, 2 steps", vanilla, i, 22, 2, 1, 1, 2, 2, 1);
     refused("the same in a VIX batch", vix_batch, i, 22, 2, 1, 1, 2, 2, 1);
+    const double late[8] = {0, 0, 0, 0, 0, 0, 0, INFINITY};
+    i.draws = late, i.draws_length = 8;
+    i.schedule.segments[0].steps = 4;
+    refused("spot, path 2, step 4, 8 steps", vanilla, i, 22, 2, 4, 1, 8, 8, 1);
+    refused("the same in a VIX batch", vix_batch, i, 22, 2, 4, 1, 8, 8, 1);
+    i.paths = i.table_length = 4;
+    refused("spot, path 3, step 4, 12 steps, mirrored", mirrored, i, 22, 3, 4, 1, 12, 12, 2);
     i = one_step();
     i.draws = infinite + 1;
     refused("spot of a trace, its start written", trace, i, 22, 1, 1, 1, 1, 1, 1);
@@ -484,6 +573,9 @@ int main(void) {
     batches();
     vixes();
     exponentials();
+    places_of_a_trace();
+    places_of_a_batch();
+    places_of_the_vix();
     models();
     schedules();
     lengths();
@@ -494,6 +586,6 @@ int main(void) {
     int missing = 0;
     for (int number = 1; number <= 26; number++) missing += !seen[number];
     expect("every refusal, 1 to 26, was answered", missing == 0);
-    printf("%d checked, %d wrong\n", checked, failures);
+    printf("%d passed, %d failed\n", checked - failures, failures);
     return failures != 0;
 }

@@ -1,11 +1,10 @@
 #!/usr/bin/env bash
-# Proves and builds the static library, compiles a C program against include/qrh.h, and runs it. The header must be
-# one for C++ too, where there is a compiler for it.
+# Proves and builds the static library, compiles a C program against include/qrh.h, and runs it: its
+# last line is 'N passed, M failed'. The header must be one for C++ too.
 set -euo pipefail
 . "$(dirname "$0")/../clients/library.sh"
 mkdir -p target
-if command -v c++ > /dev/null; then
-    c++ -std=c++11 -Wall -Wextra -Wpedantic -fsyntax-only -x c++ include/qrh.h
-fi
-cc -std=c11 -O2 -Wall -Wextra -Wpedantic -Iinclude tests/edge.c "$QRH_LIB_DIR/libterminal.a" -lm -o target/edge
+c++ -std=c++11 -Wall -Wextra -Wpedantic -fsyntax-only -x c++ include/qrh.h
+cc -std=c11 -O2 -Wall -Wextra -Wpedantic -Iinclude tests/edge.c "$QRH_LIB_DIR/libterminal.a" -lm \
+    -o target/edge
 target/edge

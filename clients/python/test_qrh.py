@@ -111,6 +111,48 @@ class Figures(unittest.TestCase):
             self.assertEqual(path.spots[k], path.spots[k - 1] + path.spots[k - 1] * d)
 
 
+class Places(unittest.TestCase):
+    """Names do not cross the edge, so in these answers no two values or tables are equal."""
+
+    # z is 1 and the variance 4 at the start; three paths rise and one falls, in two steps each
+    UNEVEN = model(weights=[2.0], a=8, b="0.5", c=2, lambda_=3, eta="1.5", factors=["0.5"])
+    TWO_QUARTERS = [Segment("0.25", 2)]
+    FALL = [0.5, 0.0, 0.5, 0.0, 0.5, 0.0, -1.0, 0.0]
+
+    def test_each_table_of_a_trace_is_its_own(self):
+        path = qrh.trace(self.UNEVEN, self.TWO_QUARTERS, [0.25, 0.0])
+        self.assertEqual(path.steps, 2)
+        self.assertEqual(list(path.spots), [100.0, 125.0, 125.0])
+        self.assertEqual(list(path.variances), [4.0, 3.125, 4.2578125])
+        self.assertEqual(list(path.z), [1.0, 0.125, -0.03125])
+        self.assertEqual(list(path.factors), [0.5, 0.0625, -0.015625])
+
+    def test_each_value_of_a_batch_is_its_own(self):
+        answer = qrh.vanilla(self.UNEVEN, self.TWO_QUARTERS, Call(110), 4, self.FALL)
+        self.assertEqual((answer.price, answer.price_error), (30.0, 10.0))
+        self.assertEqual((answer.spot_mean, answer.spot_error), (112.5, 37.5))
+        self.assertEqual((answer.paths, answer.non_positive, answer.steps), (4, 1, 8))
+        self.assertEqual(list(answer.observations), [150.0, 150.0, 150.0, 0.0])
+        answer = qrh.mirrored(self.UNEVEN, self.TWO_QUARTERS, Call(110), 4, self.FALL[:4])
+        self.assertEqual((answer.price, answer.price_error), (20.0, 11.547005383792516))
+        self.assertEqual((answer.spot_mean, answer.spot_error), (100.0, 28.867513459481287))
+        self.assertEqual((answer.paths, answer.non_positive, answer.steps), (4, 0, 8))
+        self.assertEqual(list(answer.observations), [150.0, 50.0, 150.0, 50.0])
+
+    def test_each_value_of_the_vix_is_its_own(self):
+        now = qrh.vix(self.UNEVEN, "0.0625", ["0.25"])
+        self.assertEqual((now.squared, now.index), (210107.75256414909, 458.37512210431873))
+        answer = qrh.vix_batch(
+            self.UNEVEN, self.TWO_QUARTERS, "0.0625", Call(500), 4, self.FALL)
+        self.assertEqual(
+            (answer.payoff, answer.payoff_error), (157.44415375902315, 52.481384586341051))
+        self.assertEqual(
+            (answer.index, answer.index_error), (649.18190084965352, 60.743637495710672))
+        self.assertEqual((answer.paths, answer.steps), (4, 8))
+        high, low = 503994.26999495522, 218043.22553273573
+        self.assertEqual(list(answer.observations), [high, high, high, low])
+
+
 class Refusals(unittest.TestCase):
     def refused(self, number, call, *words, place=(), steps=None, **named):
         with self.assertRaises(Refusal) as caught:

@@ -101,6 +101,73 @@ fn vix() {
     assert_eq!(observations, [40000.0; 2]);
 }
 
+/// Inputs that differ, for two steps of a quarter: z is 1 and the variance 4 at the start.
+fn uneven() -> (Model, Schedule) {
+    let model = Model {
+        weights: vec![2.0],
+        a: Decimal::from(8),
+        b: dec("0.5"),
+        c: Decimal::from(2),
+        lambda: Decimal::from(3),
+        eta: dec("1.5"),
+        factors: vec![dec("0.5")],
+        ..model()
+    };
+    (model, Schedule::from([(dec("0.25"), 2)]))
+}
+
+/// Three paths that rise and one that falls, of two steps each.
+const FALL: [f64; 8] = [0.5, 0.0, 0.5, 0.0, 0.5, 0.0, -1.0, 0.0];
+
+// Names do not cross the edge, so in the next three answers no two values or tables are equal.
+
+#[test]
+fn each_table_of_a_trace_is_its_own() {
+    let (model, schedule) = uneven();
+    let path = Path::trace(&model, &schedule, &[0.25, 0.0]).expect("an answer");
+    assert_eq!(path.spots, [100.0, 125.0, 125.0]);
+    assert_eq!(path.variances, [4.0, 3.125, 4.257_812_5]);
+    assert_eq!(path.z, [1.0, 0.125, -0.031_25]);
+    assert_eq!(path.factors, [0.5, 0.0625, -0.015_625]);
+}
+
+#[test]
+fn each_value_of_a_batch_is_its_own() {
+    let (model, schedule) = uneven();
+    let call = Vanilla::call(Decimal::from(110));
+    let mut spots = [0.0; 4];
+    let answer = qrh::vanilla(&model, &schedule, &call, 4, &FALL, &mut spots).expect("an answer");
+    assert_eq!((answer.price, answer.price_error), (30.0, 10.0));
+    assert_eq!((answer.spot_mean, answer.spot_error), (112.5, 37.5));
+    assert_eq!((answer.paths, answer.non_positive, answer.steps), (4, 1, 8));
+    assert_eq!(spots, [150.0, 150.0, 150.0, 0.0]);
+    let answer = qrh::mirrored(&model, &schedule, &call, 4, &FALL[..4], &mut spots);
+    let answer = answer.expect("an answer");
+    assert_eq!((answer.price, answer.price_error), (20.0, 11.547_005_383_792_516));
+    assert_eq!((answer.spot_mean, answer.spot_error), (100.0, 28.867_513_459_481_287));
+    assert_eq!((answer.paths, answer.non_positive, answer.steps), (4, 0, 8));
+    assert_eq!(spots, [150.0, 50.0, 150.0, 50.0]);
+}
+
+#[test]
+fn each_value_of_the_vix_is_its_own() {
+    let (model, schedule) = uneven();
+    let window = dec("0.0625");
+    let mut room = vec![0.0; workspace_length(1)];
+    let now = qrh::vix(&model, window, &[dec("0.25")], &mut room).expect("an answer");
+    assert_eq!((now.squared, now.index), (210_107.752_564_149_09, 458.375_122_104_318_73));
+    let call = VixPayoff::Vanilla(Vanilla::call(Decimal::from(500)));
+    let mut seen = [0.0; 4];
+    let answer = qrh::vix_batch(&model, &schedule, window, &call, 4, &FALL, &mut room, &mut seen);
+    let answer = answer.expect("an answer");
+    assert_eq!(answer.payoff, 157.444_153_759_023_15);
+    assert_eq!(answer.payoff_error, 52.481_384_586_341_05);
+    assert_eq!((answer.index, answer.index_error), (649.181_900_849_653_5, 60.743_637_495_710_67));
+    assert_eq!((answer.paths, answer.steps), (4, 8));
+    let high = 503_994.269_994_955_2;
+    assert_eq!(seen, [high, high, high, 218_043.225_532_735_73]);
+}
+
 #[test]
 fn limits() {
     let wide =
