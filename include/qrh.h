@@ -1,12 +1,21 @@
 /* The calls of the core for C. Link the static library of the crate `terminal`.
 
-   Every call is total: it answers any bits that its types can hold. An answer begins with its number,
-   0 where the call is answered and else the number of the refusal, and its place, 0 where there is none.
-   The values of a refused call are zeros, but for the steps taken of 22 to 25.
+   What the caller has to see to, since no call can ask it:
+   - A slice is a pointer to doubles and their number, and the pointer is valid for that many; the
+     pointer of an empty slice may be null.
+   - A table that a call writes, an output and a workspace included, overlaps nothing else that the
+     call is given: no other table and no input.
+   - A bool is 0 or 1.
+   - The floating-point environment rounds to nearest, and subnormal numbers are neither flushed to
+     zero nor taken for zero (FTZ and DAZ are off).
 
-   A slice is a pointer to doubles and their number; the pointer of an empty one may be null. Tables that
-   a call writes overlap nothing else that it is given. n is the number of weights, N the number of steps
-   of the schedule's segments together. Places count from 1.
+   With that every call is total: it answers any values that its types can hold. An answer begins
+   with its number, 0 where the call is answered and else the number of the refusal, and its place,
+   0 where there is none. The values of a refused call are zeros, but for the steps taken: a trace
+   has them at 22 and a batch at 22 to 25. qrh_vix takes no steps.
+
+   n is the number of weights, N the number of steps of the schedule's segments together. Places
+   count from 1.
 
    The refusals, with their place in brackets:
      1  a Decimal that is not zero has a scale above 28
@@ -75,7 +84,8 @@ typedef struct {
     qrh_decimal factors[10];
 } qrh_factors;
 
-/* A future on the index; or a call or a put on it, at its strike. A future has no strike: it is not read. */
+/* A future on the index; or a call or a put on it, at its strike. Of a future `put` and `strike`
+   are neither asked nor read. */
 typedef struct {
     bool future;
     bool put;
@@ -111,7 +121,8 @@ typedef struct {
     double squared, index;
 } qrh_vix_value;
 
-/* The mean payoff and the mean index at the end of the last segment, each with its standard error. */
+/* The mean payoff and the mean index at the end of the last segment, each with its standard
+   error. */
 typedef struct {
     uint32_t number;
     uint64_t place[4];
@@ -126,17 +137,19 @@ typedef struct {
     uint64_t squarings;
 } qrh_exponentiation;
 
-/* The double that is nearest to d, a tie going to the even significand; zero of either sign is +0.0.
+/* The double that is nearest to d, a tie going to the even significand; zero of either sign is
+   +0.0.
    1: d is not zero and its scale is above 28. */
 qrh_conversion qrh_convert(qrh_decimal d);
 
-/* The double that is nearest to the exact root of x; a NaN where x is a NaN or below zero. Either zero and
-   infinity give themselves. No refusal. */
+/* The double that is nearest to the exact root of x; a NaN where x is a NaN or below zero. Either
+   zero and infinity give themselves. No refusal. */
 double qrh_sqrt(double x);
 
-/* One path, from N draws. Tables: spots, variances and z of N + 1 doubles each, and factors of (N + 1) * n, point
-   by point; point 0 is the start. Asks 2 to 10, 1, 11 to 14 with 1 of each dt, 20, 21, and then 22 step by step,
-   as path 1. Nothing is written before 22; at 22 the points before the failing step are. */
+/* One path, from N draws. Tables: spots, variances and z of N + 1 doubles each, and factors of
+   (N + 1) * n, point by point; point 0 is the start. Asks 2 to 10, 1, 11 to 14 with 1 of each dt,
+   20, 21, and then 22 step by step, as path 1. Nothing is written before 22; at 22 the points
+   before the failing step are. */
 qrh_tracing qrh_trace(
     const double *weights, size_t weights_length,
     const double *discounts, size_t discounts_length,
@@ -147,10 +160,11 @@ qrh_tracing qrh_trace(
     double *z, size_t z_length,
     double *factors, size_t factors_length);
 
-/* The price of a call, or a put, on the spot, from paths * N draws, path by path. Table: observations of
-   paths * segments doubles, a row a path and a column a segment: the spot at the segment's end. Asks 2 to 10, 1,
-   11 to 14 with 1 of each dt, 18 and 1 of the strike, 19, 20, 21; 22 step by step; 25 at the end. Nothing is
-   written before 22; at 22 the observations of segments that ended before the failing step are; at 25 all. */
+/* The price of a call, or a put, on the spot, from paths * N draws, path by path. Table:
+   observations of paths * segments doubles, a row a path and a column a segment: the spot at the
+   segment's end. Asks 2 to 10, 1, 11 to 14 with 1 of each dt, 18 and 1 of the strike, 19, 20, 21;
+   22 step by step; 25 at the end. Nothing is written before 22; at 22 the observations of segments
+   that ended before the failing step are; at 25 all. */
 qrh_estimate qrh_vanilla(
     const double *weights, size_t weights_length,
     const double *discounts, size_t discounts_length,
@@ -159,8 +173,8 @@ qrh_estimate qrh_vanilla(
     const double *draws, size_t draws_length,
     double *observations, size_t observations_length);
 
-/* The same over mirrored paths: path 2i takes the draws of path 2i - 1 negated, so there are paths / 2 * N
-   draws, and 19 asks that paths is even too. */
+/* The same over mirrored paths: path 2i takes the draws of path 2i - 1 negated, so there are
+   paths / 2 * N draws, and 19 asks that paths is even too. */
 qrh_estimate qrh_mirrored(
     const double *weights, size_t weights_length,
     const double *discounts, size_t discounts_length,
@@ -169,20 +183,21 @@ qrh_estimate qrh_mirrored(
     const double *draws, size_t draws_length,
     double *observations, size_t observations_length);
 
-/* The VIX over a window of years, at the given factors. The workspace is 5 * dimension^2 doubles, where
-   dimension = n + n * (n + 1) / 2 + 2. Asks 2 to 10, 1, 15 and 1 of the window, 16, 17, then 10 and 1 of the
-   given factors, 23, 24. What the workspace holds afterwards is free, once 16 has passed. */
+/* The VIX over a window of years, at the given factors. The workspace is 5 * dimension^2 doubles,
+   where dimension = n + n * (n + 1) / 2 + 2. Asks 2 to 10, 1, 15 and 1 of the window, 16, 17, then
+   10 and 1 of the given factors, 23, 24. What the workspace holds afterwards is free, once 16 has
+   passed. */
 qrh_vix_value qrh_vix(
     const double *weights, size_t weights_length,
     const double *discounts, size_t discounts_length,
     qrh_model model, qrh_decimal window, qrh_factors given,
     double *workspace, size_t workspace_length);
 
-/* The price of a VIX future, call or put. Draws and table as in qrh_vanilla, workspace as in qrh_vix; an
-   observation is the VIX squared at the segment's end, unchecked. Asks 2 to 10, 1, 11 to 14 with 1 of each dt,
-   15 and 1 of the window, 16, 17, of a call or a put 18 and 1 of the strike, 19, 20, 21; 22 step by step; then
-   of each path's last observation 23 and 24, and 25. The observations are written as in qrh_vanilla; at 23 to 25
-   all are. */
+/* The price of a VIX future, call or put. Draws and table as in qrh_vanilla, workspace as in
+   qrh_vix; an observation is the VIX squared at the segment's end, unchecked. Asks 2 to 10, 1, 11
+   to 14 with 1 of each dt, 15 and 1 of the window, 16, 17, of a call or a put 18 and 1 of the
+   strike, 19, 20, 21; 22 step by step; then of each path's last observation 23 and 24, and 25. The
+   observations are written as in qrh_vanilla; at 23 to 25 all are. */
 qrh_vix_estimate qrh_vix_batch(
     const double *weights, size_t weights_length,
     const double *discounts, size_t discounts_length,
@@ -192,9 +207,9 @@ qrh_vix_estimate qrh_vix_batch(
     double *workspace, size_t workspace_length,
     double *observations, size_t observations_length);
 
-/* The exponential of a square matrix of dimension^2 doubles, row by row, into an output as long. The workspace is
-   5 * dimension^2 doubles. Asks 26, 16, 17. The output is written where the call is answered; what the workspace
-   holds afterwards is free, once 16 has passed. */
+/* The exponential of a square matrix of dimension^2 doubles, row by row, into an output as long.
+   The workspace is 5 * dimension^2 doubles. Asks 26, 16, 17. The output is written where the call
+   is answered; what the workspace holds afterwards is free, once 16 has passed. */
 qrh_exponentiation qrh_exponential(
     size_t dimension,
     const double *input, size_t input_length,

@@ -28,10 +28,12 @@ static qrh_decimal decimal(bool negative, uint32_t high, uint64_t low, uint8_t s
 
 static qrh_decimal whole(uint64_t value) { return decimal(false, 0, value, 0); }
 
-static const qrh_decimal QUARTER = {25, 0, 2, false}, MINUS_ONE = {1, 0, 0, true}, TOO_FINE = {1, 0, 29, false};
+static const qrh_decimal QUARTER = {25, 0, 2, false}, MINUS_ONE = {1, 0, 0, true},
+                         TOO_FINE = {1, 0, 29, false};
 
-/* Everything that a call can be given, as in the checked figures, for two paths of one step. Tables are on the heap,
-   exactly as long as they are said to be, so that a tool for memory faults sees a read or a write beyond. */
+/* Everything that a call can be given, as in the checked figures, for two paths of one step. Tables
+   are on the heap, exactly as long as they are said to be, so that a tool for memory faults sees a
+   read or a write beyond. */
 typedef struct {
     const double *weights, *discounts, *draws;
     size_t weights_length, discounts_length, draws_length;
@@ -55,7 +57,8 @@ static inputs figures(void) {
         .discounts_length = 1,
         .draws = UP_DOWN,
         .draws_length = 2,
-        .model = {whole(1), whole(0), whole(4), whole(1), whole(1), whole(100), 1, {{0, 0, 0, false}}},
+        .model =
+            {whole(1), whole(0), whole(4), whole(1), whole(1), whole(100), 1, {{0, 0, 0, false}}},
         .schedule = {1, {{QUARTER, 1}}},
         .strike = whole(100),
         .window = QUARTER,
@@ -131,17 +134,20 @@ static void forget(answer *a) {
 }
 
 static answer trace(const inputs *i) {
-    double *spots = sevens(i->table_length), *variances = sevens(i->table_length), *z = sevens(i->table_length);
+    double *spots = sevens(i->table_length), *variances = sevens(i->table_length),
+           *z = sevens(i->table_length);
     double *factors = sevens(i->factors_length);
-    qrh_tracing r = qrh_trace(i->weights, i->weights_length, i->discounts, i->discounts_length, i->model, i->schedule,
-                              i->draws, i->draws_length, spots, i->table_length, variances, i->table_length, z,
-                              i->table_length, factors, i->factors_length);
+    qrh_tracing r =
+        qrh_trace(i->weights, i->weights_length, i->discounts, i->discounts_length, i->model,
+                  i->schedule, i->draws, i->draws_length, spots, i->table_length, variances,
+                  i->table_length, z, i->table_length, factors, i->factors_length);
     answer a = answered(r.number, r.place);
     a.steps = r.steps;
     a.zeros = true;
     a.table = spots, a.length = i->table_length;
     double *more[3] = {variances, z, factors};
-    for (int t = 0; t < 3; t++) a.more[t] = more[t], a.more_length[t] = t < 2 ? i->table_length : i->factors_length;
+    for (int t = 0; t < 3; t++)
+        a.more[t] = more[t], a.more_length[t] = t < 2 ? i->table_length : i->factors_length;
     return a;
 }
 
@@ -150,12 +156,13 @@ static qrh_estimate last_estimate;
 static answer vanilla_by(bool mirrored, const inputs *i) {
     double *table = sevens(i->table_length);
     qrh_estimate r = (mirrored ? qrh_mirrored : qrh_vanilla)(
-        i->weights, i->weights_length, i->discounts, i->discounts_length, i->model, i->schedule, i->put, i->strike,
-        i->paths, i->draws, i->draws_length, table, i->table_length);
+        i->weights, i->weights_length, i->discounts, i->discounts_length, i->model, i->schedule,
+        i->put, i->strike, i->paths, i->draws, i->draws_length, table, i->table_length);
     answer a = answered(r.number, r.place);
     last_estimate = r;
     a.steps = r.steps;
-    a.zeros = r.price == 0 && r.price_error == 0 && r.spot_mean == 0 && r.spot_error == 0 && !r.paths && !r.non_positive;
+    a.zeros = r.price == 0 && r.price_error == 0 && r.spot_mean == 0 && r.spot_error == 0 &&
+              !r.paths && !r.non_positive;
     a.table = table, a.length = i->table_length;
     return a;
 }
@@ -167,8 +174,8 @@ static qrh_vix_value last_vix;
 
 static answer vix(const inputs *i) {
     double *workspace = sevens(i->workspace_length);
-    qrh_vix_value r = qrh_vix(i->weights, i->weights_length, i->discounts, i->discounts_length, i->model, i->window,
-                              i->given, workspace, i->workspace_length);
+    qrh_vix_value r = qrh_vix(i->weights, i->weights_length, i->discounts, i->discounts_length,
+                              i->model, i->window, i->given, workspace, i->workspace_length);
     answer a = answered(r.number, r.place);
     last_vix = r;
     a.zeros = r.squared == 0 && r.index == 0;
@@ -182,13 +189,15 @@ static qrh_vix_estimate last_vix_estimate;
 
 static answer vix_batch(const inputs *i) {
     double *table = sevens(i->table_length), *workspace = sevens(i->workspace_length);
-    qrh_vix_estimate r = qrh_vix_batch(i->weights, i->weights_length, i->discounts, i->discounts_length, i->model,
-                                       i->schedule, i->window, i->payoff, i->paths, i->draws, i->draws_length,
-                                       workspace, i->workspace_length, table, i->table_length);
+    qrh_vix_estimate r =
+        qrh_vix_batch(i->weights, i->weights_length, i->discounts, i->discounts_length, i->model,
+                      i->schedule, i->window, i->payoff, i->paths, i->draws, i->draws_length,
+                      workspace, i->workspace_length, table, i->table_length);
     answer a = answered(r.number, r.place);
     last_vix_estimate = r;
     a.steps = r.steps;
-    a.zeros = r.payoff == 0 && r.payoff_error == 0 && r.index == 0 && r.index_error == 0 && !r.paths;
+    a.zeros =
+        r.payoff == 0 && r.payoff_error == 0 && r.index == 0 && r.index_error == 0 && !r.paths;
     a.table = table, a.length = i->table_length;
     free(workspace);
     return a;
@@ -196,12 +205,13 @@ static answer vix_batch(const inputs *i) {
 
 typedef answer call(const inputs *);
 
-/* A call is refused by this number at this place, after these steps, with zeros for its values, and has written no
-   more than the first doubles of its table. */
-static void refused(const char *what, call *by, inputs i, uint32_t number, uint64_t p, uint64_t q, uint64_t r, uint64_t s,
-                    uint64_t steps, size_t written) {
+/* A call is refused by this number at this place, after these steps, with zeros for its values, and
+   has written no more than the first doubles of its table. */
+static void refused(const char *what, call *by, inputs i, uint32_t number, uint64_t p, uint64_t q,
+                    uint64_t r, uint64_t s, uint64_t steps, size_t written) {
     answer a = by(&i);
-    bool same = a.number == number && a.place[0] == p && a.place[1] == q && a.place[2] == r && a.place[3] == s;
+    bool same = a.number == number && a.place[0] == p && a.place[1] == q && a.place[2] == r &&
+                a.place[3] == s;
     bool left = untouched(a.table, written, a.length);
     for (int t = 0; t < 3; t++) left = left && untouched(a.more[t], written, a.more_length[t]);
     char line[128];
@@ -210,7 +220,9 @@ static void refused(const char *what, call *by, inputs i, uint32_t number, uint6
     forget(&a);
 }
 
-static void no(const char *what, call *by, inputs i, uint32_t number) { refused(what, by, i, number, 0, 0, 0, 0, 0, 0); }
+static void no(const char *what, call *by, inputs i, uint32_t number) {
+    refused(what, by, i, number, 0, 0, 0, 0, 0, 0);
+}
 
 static void conversion(void) {
     qrh_conversion c = qrh_convert(decimal(false, 0, 1, 1));
@@ -220,7 +232,8 @@ static void conversion(void) {
     c = qrh_convert(whole(9007199254740995));
     expect("9007199254740995 is 9007199254740996", c.number == 0 && c.value == 9007199254740996.0);
     c = qrh_convert(decimal(false, 4882, 14987979559899010689u, 7));
-    expect("90071992547409930000001 at scale 7 is 9007199254740994", c.number == 0 && c.value == 9007199254740994.0);
+    expect("90071992547409930000001 at scale 7 is 9007199254740994",
+           c.number == 0 && c.value == 9007199254740994.0);
     c = qrh_convert(decimal(true, 0, 0, 29));
     expect("-0 at scale 29 is +0.0", c.number == 0 && bits(c.value) == 0);
     c = qrh_convert(TOO_FINE);
@@ -239,9 +252,11 @@ static void square_root(void) {
 static void tracing(void) {
     inputs i = one_step();
     answer a = trace(&i);
-    expect("a trace of draw 0.5: spot 100, 150", a.number == 0 && a.steps == 1 && a.table[0] == 100 && a.table[1] == 150);
-    expect("... z and factor 0.25, variance 4.0625", a.more[0][0] == 4 && a.more[0][1] == 4.0625 && a.more[1][0] == 0 &&
-                                                         a.more[1][1] == 0.25 && a.more[2][1] == 0.25);
+    expect("a trace of draw 0.5: spot 100, 150",
+           a.number == 0 && a.steps == 1 && a.table[0] == 100 && a.table[1] == 150);
+    expect("... z and factor 0.25, variance 4.0625",
+           a.more[0][0] == 4 && a.more[0][1] == 4.0625 && a.more[1][0] == 0 &&
+               a.more[1][1] == 0.25 && a.more[2][1] == 0.25);
     forget(&a);
     i.draws = UP_DOWN + 1;
     a = trace(&i);
@@ -254,9 +269,11 @@ static void batches(void) {
     inputs i = figures();
     answer a = vanilla(&i);
     qrh_estimate e = last_estimate;
-    expect("a batch of draws 0.5, -1: price 25, error 25", e.number == 0 && e.price == 25 && e.price_error == 25);
+    expect("a batch of draws 0.5, -1: price 25, error 25",
+           e.number == 0 && e.price == 25 && e.price_error == 25);
     expect("... spot mean 75, error 75, two paths, one non-positive, 2 steps",
-           e.spot_mean == 75 && e.spot_error == 75 && e.paths == 2 && e.non_positive == 1 && e.steps == 2);
+           e.spot_mean == 75 && e.spot_error == 75 && e.paths == 2 && e.non_positive == 1 &&
+               e.steps == 2);
     expect("... observations 150, 0", a.table[0] == 150 && a.table[1] == 0);
     forget(&a);
     i.put = true;
@@ -267,7 +284,8 @@ static void batches(void) {
     i.draws_length = 1;
     a = mirrored(&i);
     expect("a mirrored batch of draw 0.5: spots 150, 50, price 25, 2 steps",
-           a.number == 0 && a.table[0] == 150 && a.table[1] == 50 && last_estimate.price == 25 && a.steps == 2);
+           a.number == 0 && a.table[0] == 150 && a.table[1] == 50 && last_estimate.price == 25 &&
+               a.steps == 2);
     forget(&a);
 }
 
@@ -282,8 +300,8 @@ static void vixes(void) {
     a = vix_batch(&i);
     qrh_vix_estimate v = last_vix_estimate;
     expect("its future: 200, no error, two paths, 2 steps; the strike is not read",
-           v.number == 0 && v.payoff == 200 && v.payoff_error == 0 && v.index == 200 && v.index_error == 0 &&
-               v.paths == 2 && v.steps == 2);
+           v.number == 0 && v.payoff == 200 && v.payoff_error == 0 && v.index == 200 &&
+               v.index_error == 0 && v.paths == 2 && v.steps == 2);
     expect("... observations 40000", a.table[0] == 40000 && a.table[1] == 40000);
     forget(&a);
     i.payoff = (qrh_vix_payoff){false, false, whole(150)};
@@ -301,18 +319,21 @@ static void exponentials(void) {
     const double jordan[4] = {0, 1, 0, 0}, half = 0.5, large = 0x1p1023;
     qrh_exponentiation x = qrh_exponential(2, jordan, 4, output, 4, workspace, 20);
     expect("the exponential of [0 1; 0 0]: one squaring, [1 1; 0 1]",
-           x.number == 0 && x.squarings == 1 && output[0] == 1 && output[1] == 1 && output[2] == 0 && output[3] == 1);
+           x.number == 0 && x.squarings == 1 && output[0] == 1 && output[1] == 1 &&
+               output[2] == 0 && output[3] == 1);
     free(output), free(workspace);
     output = sevens(1), workspace = sevens(5);
     x = qrh_exponential(1, &half, 1, output, 1, workspace, 5);
-    expect("of norm 0.5: no squaring", x.number == 0 && x.squarings == 0 && output[0] == 1.6487212707001282);
+    expect("of norm 0.5: no squaring",
+           x.number == 0 && x.squarings == 0 && output[0] == 1.6487212707001282);
     *output = 7;
     x = qrh_exponential(1, &large, 1, output, 1, workspace, 5);
     seen[x.number < 27 ? x.number : 0]++;
     expect("17: norm 2^1023", x.number == 17 && x.squarings == 0 && *output == 7);
     free(workspace), workspace = sevens(5);
     x = qrh_exponential(1, &half, 1, output, 1, workspace, 4);
-    expect("16: a workspace too short", x.number == 16 && x.squarings == 0 && *output == 7 && untouched(workspace, 0, 5));
+    expect("16: a workspace too short",
+           x.number == 16 && x.squarings == 0 && *output == 7 && untouched(workspace, 0, 5));
     x = qrh_exponential(1, &half, 1, output, 0, workspace, 5);
     seen[x.number < 27 ? x.number : 0]++;
     expect("26: an output too short", x.number == 26 && *output == 7);
@@ -545,7 +566,8 @@ static void stops(void) {
 }
 
 static void endings(void) {
-    const double high[2] = {1e153, 0.5}, low[2] = {-1e153, 0.5}, third[2] = {0.5, 2e8}, none[2] = {0, 0}, slow[1] = {0x1p-80};
+    const double high[2] = {1e153, 0.5}, low[2] = {-1e153, 0.5}, third[2] = {0.5, 2e8},
+                 none[2] = {0, 0}, slow[1] = {0x1p-80};
     inputs i = figures();
     i.draws = high;
     refused("the standard error of the payoff", vanilla, i, 25, 2, 0, 0, 0, 2, 2);

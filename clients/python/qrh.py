@@ -3,7 +3,8 @@
 Decimals go in as decimal.Decimal, int or str, and doubles come out as float. A call that the core refuses raises
 Refusal, with the number, the place and a sentence. Draws and tables are any buffer of doubles: array.array('d'), a
 memoryview or a numpy array is used where it lies, without a copy, while a list is copied first. Tables that are not
-lent are made here, as array.array('d').
+lent are made here, as array.array('d'). One that is lent, or a workspace, must overlap neither
+another nor the draws; this is not checked.
 
     >>> import qrh
     >>> model = qrh.Model(weights=[1.0], discounts=[4.0], a=1, b=0, c=4, lambda_=1, eta=1, spot=100, factors=[0])

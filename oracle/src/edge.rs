@@ -80,8 +80,8 @@ pub struct GivenFactors {
 }
 
 /// Every answer begins with its number, 0 where the call is answered, and its place, in document
-/// 01's order, 0 where there is none. At a refusal the values that follow are zeros, but for `steps`
-/// of 22 to 25.
+/// 01's order, 0 where there is none. At a refusal the values that follow are zeros, but for the
+/// `steps` of a trace at 22 and of a batch at 22 to 25.
 #[repr(C)]
 #[derive(Debug, Clone, Copy, Default, PartialEq)]
 pub struct ConvertAnswer {

@@ -36,7 +36,8 @@ pub enum Reported {
 
 /// Why a call was refused: the specification's number and place, and as text a sentence about the input.
 ///
-/// Places count from 1. `steps` are the steps taken, the failing one included.
+/// Places count from 1. `steps` are the steps taken, the failing one included; a VIX evaluation
+/// takes none, and has 0.
 ///
 /// ```
 /// use qrh::{Decimal, Refusal};

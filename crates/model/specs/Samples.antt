@@ -9,10 +9,10 @@ use Rattle.model.specs.declared.Segment.{Segment}
 use Rattle.model.specs.declared.Segments.{Segments}
 use Rattle.model.specs.Schedule.{scheduleOf, dtAt}
 
--- steps of hundredths / 100 years
+-- steps of percent / 100 years
 segment : ℕ → ℕ → Segment
-segment hundredths steps =
-    record { dt = record { low = hundredths; high = 0; scale = 2; negative = false }; steps = steps }
+segment percent steps =
+    record { dt = record { low = percent; high = 0; scale = 2; negative = false }; steps = steps }
 
 -- "Segments (0.25, 2), (0.5, 3): step 2 uses 0.25, step 3 uses 0.5."
 twoSegments : Segments

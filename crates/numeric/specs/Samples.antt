@@ -20,7 +20,8 @@ unfolding root ofBits
 of-two = refl
 
 -- the largest value
-of-largest : root binary64 (ofBits binary64 0x7fef_ffff_ffff_ffff) ≡ ofBits binary64 0x5fef_ffff_ffff_ffff
+of-largest :
+    root binary64 (ofBits binary64 0x7fef_ffff_ffff_ffff) ≡ ofBits binary64 0x5fef_ffff_ffff_ffff
 unfolding root ofBits
 of-largest = refl
 
