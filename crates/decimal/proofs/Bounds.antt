@@ -2,17 +2,19 @@
 -- Assumes nothing.
 use mathlib.Core.Path.{_≡_, refl, sym, ap, subst}
 use mathlib.Core.Bool.{Bool, true, false, _&&_, _||_}
-use Prim.Native.Nat.{ℕ, _+_, _*_, _^_, _≤_, _<_, zero-le}
-use native.Mathlib.Nat.{le-trans, le-of-eq, le-of-lt, lt-of-lt-of-le, le-add-left, le-add-right, zero-lt-suc, zero-mul, one-mul, mul-one, mul-pos, mul-le-mul, pow-le-pow-right}
+use Prim.Native.Nat.{ℕ, _+_, _*_, _/_, _^_, _≤_, _<_, zero-le}
+use native.Mathlib.Nat.{le-trans, le-of-eq, le-of-lt, lt-of-lt-of-le, le-add-left, le-add-right, zero-lt-suc, zero-mul, one-mul, mul-one, mul-pos, mul-le-mul, mul-le-mul-left, mul-le-mul-right, pow-le-pow-right}
 use lib.Dec.{T, lit<, lit≤, ltb, eqb, eqb-refl, eqb→eq, lt→ltb}
 use lib.Pow.{pow-pos}
 use lib.IntN.{ℤ, pos, negsuc}
-use lib.Ieee.{Float, nan, inf, fin, binary64, up, down, round, le}
-use lib.Ieee.Fits.{down-pos, round-is}
-use lib.Ieee.Exact.{HasValue, units-val, round-exact}
-use lib.Ieee.Order.{drop, kept, transfer, le-of-values, round-mono}
-use lib.Ieee.Scale.{grid, overflow, round-val, round-under}
+use lib.Ieee.{Float, nan, inf, fin, binary64, up, down, size, round, le}
+use lib.Ieee.Fits.{down-pos}
+use lib.Ieee.Exact.{HasValue, round-exact}
+use lib.Ieee.Order.{transfer, le-of-values, round-mono}
+use lib.Ieee.Scale.{grid, overflow, round-val, round-under, normal-of-fraction}
 use lib.Ieee.Positive.{positive, positive-finite, positive-of-value, values-of-le, between}
+use Rattle.numeric.specs.Correct.{FractionIsNearest}
+use Rattle.numeric.proofs.Fractions.{round-value, round-is-nearest}
 use Rattle.decimal.proofs.Scaled.{ten-pos}
 
 pub record Within (v : Float) (s : Bool) : Type 0 where
@@ -75,17 +77,21 @@ module _ (c k : ℕ) (C : 0 < c) (W : c < 2 ^ 96) (K : k ≤ 28) where
   x-value : HasValue x false g (2 ^ 1074)
   x-value = round-val binary64 c (10 ^ k) under
 
-  -- the sign does not change the size
-  signed-value : (s : Bool) → HasValue (round binary64 s c (10 ^ k)) s g (2 ^ 1074)
-  signed-value s =
-      subst (λ (z : Float). HasValue z s g (2 ^ 1074)) (sym (round-is binary64 s c (10 ^ k)))
-      (units-val binary64 s (kept 53 (c * 2 ^ 1074) (10 ^ k)) (drop 53 (c * 2 ^ 1074) (10 ^ k)) under)
-
   pub within : (s : Bool) → Within (round binary64 s c (10 ^ k)) s
   within s =
-      from-value (round binary64 s c (10 ^ k)) s g (signed-value s)
+      from-value (round binary64 s c (10 ^ k)) s g (round-value s c (10 ^ k) under)
       (values-of-le lo x 1 (2 ^ 94) g (2 ^ 1074) lo-positive x-positive lo-value x-value from)
       (values-of-le x hi g (2 ^ 1074) (2 ^ 96) 1 x-positive hi-positive x-value hi-value to)
+
+  -- it has all its 53 digits, so it is the nearest double
+  normal : 53 ≤ size (c * 2 ^ 1074 / 10 ^ k)
+  normal =
+      normal-of-fraction binary64 c (10 ^ k) (ten-pos k)
+      (le-trans (mul-le-mul-left (2 ^ 52) (pow-le-pow-right (zero-lt-suc 9) K))
+      (le-trans (lit≤ tt) (mul-le-mul-right (2 ^ 1074) C)))
+
+  pub is-nearest : (s : Bool) → FractionIsNearest s c (10 ^ k) (round binary64 s c (10 ^ k))
+  is-nearest s = round-is-nearest c (10 ^ k) (ten-pos k) normal under s
 
 -- ---- a double by the fraction m * up e / down e, compared with powers of two
 or-l : (a b : Bool) → T a → T (a || b)

@@ -12,12 +12,12 @@ use lib.Ieee.Positive.{num, den, positive, between}
 use borrow.Author.Tests.{leb-true, le-leb, lt-leb}
 use Rattle.decimal.specs.declared.Decimal.{Decimal}
 use Rattle.decimal.specs.declared.Converted.the-variants.{Value, ScaleTooLarge}
-use Rattle.decimal.specs.Decimal.{coefficient, isZero, isNegative, isPositive, scaleFits, nearestDouble, value, convert}
+use Rattle.decimal.specs.Decimal.{coefficient, isZero, isNegative, isPositive, scaleFits, nearestDouble, value, convert, ConvertsToNearest}
+use Rattle.numeric.specs.Correct.{FractionIsNearest}
 use Rattle.numeric.specs.Double.{plusZero}
 use Rattle.decimal.proofs.Zero.{nonzero, negative-is, positive-nonzero, positive-not-negative}
-use Rattle.decimal.proofs.Bounds.{within, at-least, at-most, at-lowest, not-below}
+use Rattle.decimal.proofs.Bounds.{within, is-nearest, at-least, at-most, at-lowest, not-below}
 
--- the pattern of +0.0, as the code writes it
 -- ---- the cases of `value`
 by-tests : (d : Decimal) (z f : Bool) → isZero d ≡ z → leb (d .scale) 28 ≡ f → value d ≡ cond z plusZero (cond f (nearestDouble d) plusZero)
 unfolding value
@@ -92,6 +92,14 @@ module _ (d : Decimal) (W : coefficient d < 2 ^ 96) where
 
   pub converts : Converts d
   converts = by-cases (isZero d) (leb (d .scale) 28) refl refl
+
+  -- ---- the nearest double
+  pub converts-to-nearest : ConvertsToNearest d (value d)
+  unfolding ConvertsToNearest
+  converts-to-nearest z f =
+      let K = leb-true (d .scale) 28 (sym (fits-is d false (leb (d .scale) 28) z refl) ∙ f) in
+      subst (FractionIsNearest (d .negative) (coefficient d) (10 ^ d .scale)) (sym (nearest-value d z K))
+      (is-nearest (coefficient d) (d .scale) (nonzero d z) W K (d .negative))
 
   -- ---- the same, one by one
   pub value-finite : T (finite (value d))

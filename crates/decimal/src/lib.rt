@@ -5,7 +5,7 @@ mod round;
 ghost use mathlib.Core.Path.{_≡_};
 ghost use Prim.Native.Nat.{_^_, _≤_, _<_};
 ghost use lib.Ieee.{binary64, round};
-ghost use Rattle.decimal.specs.Decimal.{isZero, isNegative, isPositive, scaleFits, value, convert};
+ghost use Rattle.decimal.specs.Decimal.{isZero, isNegative, isPositive, scaleFits, value, convert, AnswersNearest};
 ghost use Rattle.decimal.specs.Steps.{wide};
 
 // ±(high * 2^64 + low) / 10^scale. Every value of the struct is a Decimal.
@@ -74,7 +74,8 @@ pub fn double_of(d: Decimal) -> f64
 }
 
 pub fn decimal_to_f64(d: Decimal) -> Converted
-    ensures { λ r. ⌜ r ≡ convert d ⌝ }
+    ensures answer { λ r. ⌜ r ≡ convert d ⌝ }
+    ensures nearest { λ r. ⌜ AnswersNearest d r ⌝ }
 {
     if scale_fits(d) {
         Converted::Value(double_of(d))

@@ -2,7 +2,9 @@ pub mod Doubles
 pub mod Numbers
 pub mod Compare
 pub mod Whole
+pub mod Choice
 pub mod Correct
+pub mod Fractions
 pub mod Rounding
 pub mod Patterns
 pub mod Values

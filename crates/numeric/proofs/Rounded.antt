@@ -144,7 +144,7 @@ round-ordered f true a b true c d B D h =
 -- ---- a fraction that the format holds
 
 -- m * 2 ^ e is m * 2 ^ shift of the smallest values of the format
-record Units (f : Format) (m : ℕ) (e : ℤ) : Type 0 where
+pub record Units (f : Format) (m : ℕ) (e : ℤ) : Type 0 where
   pub digits : m < 2 ^ prec f
   pub shift : ℕ
   pub equal : m * up e * 2 ^ low f ≡ m * 2 ^ shift * down e
@@ -171,7 +171,7 @@ shift-under f m e j p h =
     mul-right-comm (2 ^ suc (emax f)) (down e) l ∙ ap (λ (x : ℕ). x * down e) (mul-comm (2 ^ suc (emax f)) l ∙ sym (pow-add 2 (low f) (suc (emax f)))) in
     lt-of-mul-lt-mul-right (down e) (subst (λ (x : ℕ). x < 2 ^ (low f + suc (emax f)) * down e) p (subst (λ (x : ℕ). m * up e * l < x) q (mul-lt-mul-of-pos-right h (pow-pos (low f)))))
 
-shift-of : (f : Format) (s : Bool) (m : ℕ) (e : ℤ) → T (fits f (fin s m e)) → Units f m e
+pub shift-of : (f : Format) (s : Bool) (m : ℕ) (e : ℤ) → T (fits f (fin s m e)) → Units f m e
 unfolding fits
 shift-of f s zero e t = record { digits = pow-pos (prec f); shift = 0; equal = ap (λ (x : ℕ). x * 2 ^ low f) (zero-mul (up e)) ∙ zero-mul (2 ^ low f) ∙ sym (zero-mul (down e)); under = pow-pos (low f + suc (emax f)) }
 shift-of f s (suc m) e t =

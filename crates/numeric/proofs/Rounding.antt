@@ -61,7 +61,7 @@ pub rootUnits-is : (v : ℕ) → rootUnits binary64 v ≡ core v (isqrt v) (size
 unfolding rootUnits
 rootUnits-is v = refl
 
-size-exact : (w k : ℕ) → 2 ^ (52 + k) ≤ w → w < 2 ^ (53 + k) → size w - 53 ≡ k
+pub size-exact : (w k : ℕ) → 2 ^ (52 + k) ≤ w → w < 2 ^ (53 + k) → size w - 53 ≡ k
 size-exact w k lo hi =
     let a : size w ≤ 53 + k = size-le w (53 + k) hi in
     let b : 52 + k < size w = lt-of-not-le (λ (g : size w ≤ 52 + k). not-le-of-lt (lt-of-lt-of-le (size-lt w) (pow-mono g)) lo) in

@@ -1,14 +1,13 @@
--- What it means that `root` is correctly rounded, said without its steps: every other double is further from the exact root than the result is. So no double is nearer, and there is never a tie.
--- Sizes are counted in the smallest double, 2 ^ -1074, of which every double is a whole number. Counted in its square, x is a whole number too: the exact root of x is √(sizeOf x * 2 ^ 1074).
--- `proofs/Correct.antt` proves both laws. Definitions only.
-use Prim.Native.Nat.{ℕ, _+_, _*_, _/_, _^_, _<_}
+-- What it means that a double is the one nearest to an exact number, said without the steps that
+-- find it. Sizes are counted in the smallest double, 2 ^ -1074, of which every double is a whole
+-- number. Definitions only.
+use Prim.Native.Nat.{ℕ, _+_, _-_, _*_, _/_, _^_, _≤_, _<_}
 use mathlib.Core.Path.{_≡_}
 use mathlib.Core.Bool.{Bool, false}
 use lib.IntN.{ℤ}
 use lib.Dec.{T}
-use lib.Ieee.{Float, nan, inf, fin, binary64, up, down, fits}
+use lib.Ieee.{Float, nan, inf, fin, binary64, up, down, fits, size}
 use lib.Ieee.Positive.{positive}
-use Rattle.numeric.specs.Root.{root}
 
 -- How many of the smallest double a finite double is, its sign left out.
 abbrev pub sizeOf : Float → ℕ
@@ -16,21 +15,64 @@ sizeOf nan = 0
 sizeOf (inf s) = 0
 sizeOf (fin s m e) = m * up e * 2 ^ 1074 / down e
 
--- A law of it: the division leaves no remainder.
-abbrev pub SizeIsExact : Type 0
-SizeIsExact = (s : Bool) (m : ℕ) (e : ℤ) → T (fits binary64 (fin s m e)) → sizeOf (fin s m e) * down e ≡ m * up e * 2 ^ 1074
+-- ---- an exact number, by how twice it compares with a whole number n
 
--- r is nearer to √v than y is: √v lies on r's side of the middle between them, (r + y) / 2. Here both are doubled and squared, so that no root is left.
-pub record Nearer (v r y : ℕ) : Type 0 where
-  pub from-above : r < y → 4 * v < (r + y) * (r + y)
-  pub from-below : y < r → (r + y) * (r + y) < 4 * v
+-- Twice the number is below n where `twice` is below `level n`, it is n where the two are equal,
+-- and above n elsewhere.
+pub record Exact : Type 0 where
+  pub twice : ℕ
+  pub level : ℕ → ℕ
 
--- r is a double above zero, finite, and nearer to the exact root of x than any other double n * 2 ^ e is that is zero or more (one below zero is further off than zero is).
-pub record NearestDouble (x r : Float) : Type 0 where
+-- √v: both are squared, so that no root is left
+abbrev pub rootOf : ℕ → Exact
+rootOf v = record { twice = 4 * v; level = λ n. n * n }
+
+-- a / b: both are multiplied by b, so that no fraction is left
+abbrev pub fraction : ℕ → ℕ → Exact
+fraction a b = record { twice = 2 * a; level = λ n. n * b }
+
+-- ---- the nearest double
+
+-- n * 2 ^ k is a double: each that is finite and not below zero is one of these
+abbrev pub IsDouble : ℕ → ℤ → Type 0
+IsDouble n k = T (fits binary64 (fin false n k))
+
+-- The size y is not nearer to the exact number than r is: the number does not lie on y's side of
+-- the middle between them, (r + y) / 2. Where it lies at the middle, y is as near as r: a tie.
+pub record NotNearer (x : Exact) (AtTie : Type 0) (r y : ℕ) : Type 0 where
+  pub from-above : r < y → x .twice ≤ x .level (r + y)
+  pub from-below : y < r → x .level (r + y) ≤ x .twice
+  pub tie : (r ≡ y → ⊥) → x .twice ≡ x .level (r + y) → AtTie
+
+-- r is a double, finite, with the sign s, and no double is nearer in size to the exact number.
+-- `AtTie` is what is said of r's size where another double is as near.
+pub record NearestDouble (s : Bool) (x : Exact) (AtTie : ℕ → Type 0) (r : Float) : Type 0 where
+  pub m : ℕ
+  pub e : ℤ
+  pub is : r ≡ fin s m e
   pub double : T (fits binary64 r)
-  pub above-zero : T (positive r)
-  pub nearer : (n : ℕ) (e : ℤ) → T (fits binary64 (fin false n e)) → Nearer (sizeOf x * 2 ^ 1074) (sizeOf r) (sizeOf (fin false n e))
+  -- the size of a double n * 2 ^ k is exact: the division in `sizeOf` leaves no remainder
+  pub exact : (n : ℕ) (k : ℤ) → IsDouble n k → sizeOf (fin false n k) * down k ≡ n * up k * 2 ^ 1074
+  -- and no such double is nearer than r; one of the other sign is further off than zero is
+  pub nearest : (n : ℕ) (k : ℤ) → IsDouble n k
+      → NotNearer x (AtTie (sizeOf r)) (sizeOf r) (sizeOf (fin false n k))
 
--- The law: so it is for each double x that is finite and above zero.
-abbrev pub RootIsNearest : Type 0
-RootIsNearest = (x : Float) → T (fits binary64 x) → T (positive x) → NearestDouble x (root binary64 x)
+-- ---- the law of the root
+
+-- Of a double x that is finite and above zero, r is the nearest double to the exact root, and there
+-- is never a tie. Counted in the square of the smallest double, x is sizeOf x * 2 ^ 1074.
+unfoldable pub RootIsNearest : Float → Float → Type 0
+RootIsNearest x r = T (positive x) → NearestDouble false (rootOf (sizeOf x * 2 ^ 1074)) (λ n. ⊥) r
+
+-- ---- the law of a fraction's rounding
+
+-- The significand of the size n is even: n is an even number of its own last places. Of the
+-- `size n` binary digits of n a double keeps 53, so its last place counts 2 ^ (size n - 53).
+pub record EvenSignificand (n : ℕ) : Type 0 where
+  pub half : ℕ
+  pub is : n ≡ 2 * half * 2 ^ (size n - 53)
+
+-- r is the nearest double to the fraction a / b, with the sign s, and at a tie its significand is
+-- even. Counted in the smallest double, the fraction is a * 2 ^ 1074 / b.
+unfoldable pub FractionIsNearest : Bool → ℕ → ℕ → Float → Type 0
+FractionIsNearest s a b r = NearestDouble s (fraction (a * 2 ^ 1074) b) EvenSignificand r

@@ -4,6 +4,7 @@ ghost use mathlib.Core.Path.{_≡_};
 ghost use mathlib.Core.Bool.{true};
 ghost use lib.Ieee.{binary64};
 ghost use Rattle.numeric.specs.Double.{finite, bitsOf, magnitude, positivePart, larger};
+ghost use Rattle.numeric.specs.Correct.{RootIsNearest};
 ghost use Rattle.numeric.specs.Root.{root};
 
 mod nearest;
@@ -15,7 +16,8 @@ const HIDDEN: u64 = 0x10_0000_0000_0000;
 // Rust's x.sqrt(): the double nearest to the exact root. It is decided by the exponent field; with
 // the sign above it, a field of 2048 or more is that of a number with a minus sign.
 pub fn sqrt(x: f64) -> f64
-    ensures { λ r. ⌜ r ≡ root binary64 x ⌝ }
+    ensures root { λ r. ⌜ r ≡ root binary64 x ⌝ }
+    ensures nearest { λ r. ⌜ RootIsNearest x r ⌝ }
 {
     if x != x {
         return x;

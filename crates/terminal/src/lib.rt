@@ -14,8 +14,9 @@ ghost use mathlib.Core.Path.{_≡_};
 ghost use mathlib.Core.Bool.{true, false};
 ghost use lib.ListN.{length};
 ghost use lib.Ieee.{binary64};
+ghost use Rattle.numeric.specs.Correct.{RootIsNearest};
 ghost use Rattle.numeric.specs.Root.{root};
-ghost use Rattle.decimal.specs.Decimal.{convert};
+ghost use Rattle.decimal.specs.Decimal.{convert, ConvertsToNearest};
 ghost use Rattle.doors.specs.Model.{given};
 ghost use Rattle.model.specs.Trace.{tables};
 ghost use Rattle.matrix.specs.Call.{sizeQuestions, exponentialCall, exponentialTable};
@@ -35,7 +36,8 @@ pub struct Conversion {
 
 #[no_mangle]
 pub extern "C" fn qrh_convert(d: Decimal) -> Conversion
-    ensures { λ r. ⌜ r ≡ conversion (convert d) ⌝ }
+    ensures answer { λ r. ⌜ r ≡ conversion (convert d) ⌝ }
+    ensures nearest { λ r. ⌜ ConvertsToNearest d (r .value) ⌝ }
 {
     // Made first: an answer put together in each arm would be copied once more after the conversion.
     let mut answer = Conversion {
@@ -56,7 +58,8 @@ pub extern "C" fn qrh_convert(d: Decimal) -> Conversion
 
 #[no_mangle]
 pub extern "C" fn qrh_sqrt(x: f64) -> f64
-    ensures { λ r. ⌜ r ≡ root binary64 x ⌝ }
+    ensures root { λ r. ⌜ r ≡ root binary64 x ⌝ }
+    ensures nearest { λ r. ⌜ RootIsNearest x r ⌝ }
 {
     numeric::sqrt(x)
 }

@@ -8,7 +8,9 @@ use lib.Ieee.{Float, nan, inf, binary64, fits, ofBits, toBits}
 use lib.Ieee.Bits.{ofBits-toBits, toBits-lt}
 use lib.Ieee.Compare.{differs-from-itself}
 use borrow.Author.Needs.{needs}
+use Rattle.numeric.specs.Correct.{RootIsNearest}
 use Rattle.numeric.specs.Root.{root}
+use Rattle.numeric.proofs.Correct.{root-is-nearest}
 use Rattle.numeric.proofs.Patterns.{same-no-nan, at-most-inf}
 use Rattle.numeric.proofs.Values.{sign-clear, field-top}
 use Rattle.numeric.proofs.sqrt.Statement.{statement}
@@ -25,9 +27,13 @@ root-inf = refl
 held : (c : tie.Start) → T (fits binary64 (c .args .x))
 held c = subst T (sym (c .good .0 .1)) tt
 
+-- the law of the root comes with the equation
+answered : (c : tie.Start) (r : Float) → r ≡ root binary64 (c .args .x) → (r ≡ root binary64 (c .args .x)) × RootIsNearest (c .args .x) r
+answered c r e = (e, subst (RootIsNearest (c .args .x)) (sym e) (root-is-nearest (c .args .x) (held c)))
+
 -- the root is that of what the pattern stands for
-by-pattern : (c : tie.Start) (r : Float) → r ≡ root binary64 (ofBits binary64 (toBits binary64 (c .args .x))) → r ≡ root binary64 (c .args .x)
-by-pattern c r e = e ∙ ap (root binary64) (ofBits-toBits binary64 (c .args .x) (held c))
+by-pattern : (c : tie.Start) (r : Float) → r ≡ root binary64 (ofBits binary64 (toBits binary64 (c .args .x))) → (r ≡ root binary64 (c .args .x)) × RootIsNearest (c .args .x) r
+by-pattern c r e = answered c r (e ∙ ap (root binary64) (ofBits-toBits binary64 (c .args .x) (held c)))
 
 magnitude : (c : tie.Else1) → toBits binary64 (c .before .args .x) % 2 ^ 63 ≤ 2047 * 2 ^ 52
 magnitude c = at-most-inf (c .before .args .x) (held (c .before)) (same-no-nan (c .before .args .x) (c .if1 .left))
@@ -41,7 +47,7 @@ infinite x F e =
 returns : tie.Need-returns
 returns c =
     let is : c .before .args .x ≡ nan = differs-from-itself (c .before .args .x) (subst T (sym (c .if1 .taken)) tt) in
-    is ∙ sym (ap (root binary64) is ∙ root-nan)
+    answered (c .before) (c .before .args .x) (is ∙ sym (ap (root binary64) is ∙ root-nan))
 
 float-to-bits-bits : tie.Need-float-to-bits-bits
 float-to-bits-bits c = same-no-nan _ (c .if1 .left)
@@ -59,7 +65,10 @@ returns-2 : tie.Need-returns-2
 returns-2 c = by-pattern (c .before .before .before) (c .small .result) (c .small .ensures)
 
 returns-3 : tie.Need-returns-3
-returns-3 c = infinite (c .before .before .args .x) (held (c .before .before)) (omega (arith, magnitude (c .before), toBits-lt binary64 (c .before .before .args .x) (held (c .before .before))))
+returns-3 c =
+    let x = c .before .before .args .x in
+    let F = held (c .before .before) in
+    answered (c .before .before) x (infinite x F (omega (arith, magnitude (c .before), toBits-lt binary64 x F)))
 
 returns-4 : tie.Need-returns-4
 returns-4 c = by-pattern (c .before .before .before .before) (c .normal .result) (c .normal .ensures)

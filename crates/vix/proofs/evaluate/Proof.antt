@@ -31,7 +31,7 @@ returns-3 c =
     let two = c .before in
     let one = two .before in
     positive (one .before .before .raw-squared .ensures) (one .before .is-finite .ensures) (one .if1 .left) (two .if2 .left)
-    (c .sqrt .ensures)
+    (c .sqrt .ensures .0)
 
 pub evaluate-spec : {M : Type 1} → statement M
 evaluate-spec =

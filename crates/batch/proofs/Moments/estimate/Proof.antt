@@ -10,7 +10,7 @@ sqrt-requires c κs = search needs
 
 returns : tie.Need-returns
 unfolding ofBits estimateOf
-returns c = rw (c .sqrt .ensures)
+returns c = rw (c .sqrt .ensures .0)
 
 pub estimate-spec : {M : Type 1} → statement M
 estimate-spec = tie.close (tie.spec sqrt-requires returns)

@@ -99,7 +99,7 @@ loop-again c =
     let told = c .before .before in
     let asked = told .before .before in
     let at = asked .before .before .before .before .loop in
-    (omega arith, laying-more _ _ _ _ _ _ (at .inv .1) (asked .before .before .before .loop-test .taken) _ _ (c .before .double-of .ensures) (c .sqrt .ensures) (sym (asked .segment-questions .ensures) ∙ told .enum-told .given .1))
+    (omega arith, laying-more _ _ _ _ _ _ (at .inv .1) (asked .before .before .before .loop-test .taken) _ _ (c .before .double-of .ensures) (c .sqrt .ensures .0) (sym (asked .segment-questions .ensures) ∙ told .enum-told .given .1))
 
 returns-4 : tie.Need-returns-4 Inv-loop μ-loop
 returns-4 c = schedule-prepared _ _ _ _ _ _ (c .before .loop .inv .1) (omega arith)

@@ -18,7 +18,7 @@ returns : tie.Need-returns
 returns c =
     let known = c .before .before .before .before .before .before .before .before .before .before .before .before in
     c .read .ensures
-    ∙ step-take (known .args .k) (known .args .p) (known .args .s) (known .args .g) (known .args .rates) _ (known .pre .0) (known .pre .1) _ (c .before .before .before .before .before .before .before .before .before .before .sqrt .ensures) (c .before .before .before .move-factors .ensures)
+    ∙ step-take (known .args .k) (known .args .p) (known .args .s) (known .args .g) (known .args .rates) _ (known .pre .0) (known .pre .1) _ (c .before .before .before .before .before .before .before .before .before .before .sqrt .ensures .0) (c .before .before .before .move-factors .ensures)
 
 pub step-spec : {M : Type 1} → statement M
 step-spec = tie.close (tie.spec sqrt-requires move-factors-requires read-requires returns)
