@@ -1,14 +1,14 @@
--- `squarings` is what its comment says: the least whole number s with norm ≤ 0.5 × 2^s, for every finite double. Assumes nothing.
+-- `squarings` is what its comment says: the least whole number s with norm ≤ 0.5 × 2^s, for every double of which twice the size is finite. Assumes nothing.
 use mathlib.Core.Path.{_≡_, refl, sym, ap, _∙_, subst, subst₂}
-use mathlib.Core.Bool.{Bool, true, false, _&&_, _||_}
+use mathlib.Core.Bool.{Bool, true, false, _&&_, _||_, true≢false}
 use Prim.Native.Nat.{ℕ, zero, suc, _+_, _*_, _%_, _^_, _≤_, _<_, zero-le}
 use native.Mathlib.Nat.{add-zero, add-suc, suc-add, zero-mul, mul-pos, one-mul, mul-one}
 use native.Mathlib.Decide.{ℕ-discrete}
 use native.Mathlib.Omega.{arith}
 use lib.Dec.{T, ltb, leb, eqb, ltb→lt, lt→ltb, lit<}
-use lib.Ieee.{Float, nan, inf, fin, binary64, up, down, fits, lt, eq, le}
+use lib.Ieee.{Float, nan, inf, fin, binary64, up, down, fits, add, lt, eq, le}
 use lib.Ieee.Fits.{and-r, down-pos}
-use Rattle.numeric.specs.Double.{finite}
+use Rattle.numeric.specs.Double.{finite, plus}
 use Rattle.matrix.specs.Exponential.{halfTwoTo, firstEnough, squarings, IsLeast}
 
 -- a search that begins at or below the least number finds it
@@ -51,6 +51,15 @@ most (fin false (suc m) e) f h =
     (subst₂ (λ (x y : ℕ). x < y * down e) (sym (mul-one (suc m * up e))) (sym (one-mul (2 ^ 1024)))
     (ltb→lt (suc m * up e) (2 ^ 1024 * down e) (and-r (eqb (suc m % 2) 1 && ltb (suc m) (2 ^ 53) && leb (down e) (2 ^ 1074)) (ltb (suc m * up e) (2 ^ 1024 * down e)) f)))
 
-pub squarings-least : (norm : Float) → T (fits binary64 norm) → T (finite norm) → IsLeast norm (squarings norm)
+-- and so is a norm of which twice the size is finite
+norm-finite : (x : Float) → finite (plus x x) ≡ true → T (finite x)
+unfolding add
+norm-finite nan e = absurd (true≢false (sym e))
+norm-finite (inf true) e = absurd (true≢false (sym e))
+norm-finite (inf false) e = absurd (true≢false (sym e))
+norm-finite (fin s m d) e = tt
+
+pub squarings-least : (norm : Float) → T (fits binary64 norm) → finite (plus norm norm) ≡ true → IsLeast norm (squarings norm)
 unfolding squarings le
-squarings-least norm f h = least-from norm 1025 0 (λ t e. zero-le) (or-left (lt norm (halfTwoTo 1025)) (eq norm (halfTwoTo 1025)) (most norm f h))
+squarings-least norm f h =
+    least-from norm 1025 0 (λ t e. zero-le) (or-left (lt norm (halfTwoTo 1025)) (eq norm (halfTwoTo 1025)) (most norm f (norm-finite norm h)))

@@ -17,18 +17,20 @@ halfTwoTo s = fin false 1 (minus s 1)
 abbrev pub twoToMinus : ℕ → Float
 twoToMinus s = fin false 1 (minus 0 s)
 
--- the first of so many numbers, from `at` on, that is such an s, and the number after them if none is
+-- the first of so many numbers, from `at` on, that is such an s, and the number after them if none
+-- is
 unfoldable pub firstEnough : ℕ → ℕ → Float → ℕ
 unfolding le
 firstEnough zero at norm = at
-firstEnough (suc many) at norm = elim (le norm (halfTwoTo at)) [ true ↦ at | false ↦ firstEnough many (suc at) norm ]
+firstEnough (suc many) at norm =
+    elim (le norm (halfTwoTo at)) [ true ↦ at | false ↦ firstEnough many (suc at) norm ]
 
 -- 1025 numbers are enough: a finite double is at most 0.5 × 2^1025
 unfoldable pub squarings : Float → ℕ
 unfolding firstEnough
 squarings norm = firstEnough 1025 0 norm
 
--- the same without the search: `proofs/Least.antt` shows it of `squarings norm`, for every finite double
+-- the same without the search: s is enough, and no smaller number is
 pub record IsLeast (norm : Float) (s : ℕ) : Type 0 where
   pub enough : T (le norm (halfTwoTo s))
   pub least : (t : ℕ) → T (le norm (halfTwoTo t)) → s ≤ t
@@ -38,7 +40,8 @@ pub record IsLeast (norm : Float) (s : ℕ) : Type 0 where
 -- at a degree: product with the result, × (1 / degree), + 1 on the diagonal
 unfoldable pub hornerStep : ℕ → List Float → ℕ → List Float → List Float
 unfolding product scaled plusIdentity div ofInt
-hornerStep n a degree result = plusIdentity n (scaled (over one (ofInt binary64 (pos degree))) (product n a result))
+hornerStep n a degree result =
+    plusIdentity n (scaled (over one (ofInt binary64 (pos degree))) (product n a result))
 
 -- the result after t degrees, begun with the identity: the next degree is 18 - t
 unfoldable pub horner : ℕ → List Float → ℕ → List Float

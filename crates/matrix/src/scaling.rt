@@ -2,7 +2,7 @@
 ghost use mathlib.Core.Path.{_≡_};
 ghost use mathlib.Core.Bool.{true};
 ghost use Rattle.numeric.specs.Double.{plus, finite};
-ghost use Rattle.matrix.specs.Exponential.{squarings, twoToMinus};
+ghost use Rattle.matrix.specs.Exponential.{squarings, twoToMinus, IsLeast};
 
 // The number of squarings, s, and 2^-s.
 pub struct Scaling {
@@ -14,7 +14,9 @@ pub struct Scaling {
 // norm is finite, so that s is at most 1024, and 2^-1024 is a double still.
 pub(crate) fn of_norm(norm: f64) -> Scaling
     requires { ⌜ finite (plus norm norm) ≡ true ⌝ }
-    ensures { λ r. ⌜ (r .squarings ≡ squarings norm) × (r .factor ≡ twoToMinus (squarings norm)) ⌝ }
+    ensures squarings { λ r. ⌜ r .squarings ≡ squarings norm ⌝ }
+    ensures factor { λ r. ⌜ r .factor ≡ twoToMinus (squarings norm) ⌝ }
+    ensures least { λ r. ⌜ IsLeast norm (r .squarings) ⌝ }
 {
     let mut squarings = 0;
     let mut factor = 1.0;

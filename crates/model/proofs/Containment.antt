@@ -12,7 +12,7 @@ use lib.Seq.{getD-take}
 use lib.Ieee.{nan}
 use Rattle.model.specs.declared.Schedule.{Schedule}
 use Rattle.model.specs.Schedule.{lastStep, contains, orNext, firstOf, segmentOf, dtAt, sqrtDtAt, scheduleInUse}
-use Rattle.model.specs.Laid.{Laid, ContainedOnce}
+use Rattle.model.specs.Laid.{Laid}
 use Rattle.model.proofs.First.{split}
 
 -- ---- the first number that passes
@@ -167,18 +167,3 @@ module _ (sc : Schedule) (laid : Laid sc) where
       ⊎-elim (λ (y : g < j). absurd (omega (arith, r .0, last-before sc laid (suc g) j y (omega arith))))
       (λ (y : j ≤ g). omega arith) (split g j))
       (split j g)
-
-  pub contained-once : (k : ℕ) → 1 ≤ k → k ≤ sc .total → ContainedOnce sc k
-  contained-once k lo hi =
-      let r = segment-at k lo hi in
-      let e = segment-of sc laid (r .0) k (r .1) (r .2) (r .3) in
-      record {
-        some = omega (arith, e);
-        few = omega (arith, e, r .1);
-        holds = rw e (contains-yes sc laid (r .0) k (r .2) (r .3));
-        only = λ i from upto held. only (r .0) k (r .1) (r .2) (r .3) i from upto held ∙ sym e;
-      }
-    where
-      only : (g k : ℕ) → g < sc .count → lastStep sc g < k → k ≤ lastStep sc (suc g) → (i : ℕ) → 1 ≤ i → i ≤ sc .count → contains sc i k ≡ true → i ≡ suc g
-      only g k b after upto zero from few held = absurd (omega arith)
-      only g k b after upto (suc i) from few held = ap suc (segment-only g i k b few after upto held)

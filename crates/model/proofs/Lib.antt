@@ -3,6 +3,5 @@ pub mod First
 pub mod Stops
 pub mod FiniteStates
 pub mod Containment
-pub mod WalkLaws
 pub mod Points
 pub mod Tracing

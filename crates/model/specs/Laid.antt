@@ -1,21 +1,14 @@
 -- A schedule as its door lays it out. Definitions only.
 use mathlib.Core.Path.{_≡_}
-use mathlib.Core.Bool.{true}
 use Prim.Native.Nat.{ℕ, _≤_, _<_}
 use Rattle.model.specs.declared.Schedule.{Schedule}
-use Rattle.model.specs.Schedule.{lastStep, contains, segmentOf}
+use Rattle.model.specs.Schedule.{lastStep}
 
--- 1 to 64 segments, each of a step or more, that end one after the other, the last one at the last step, which is 4096 at most
+-- 1 to 64 segments, each of a step or more, that end one after the other, the last one at the last
+-- step, which is 4096 at most
 pub record Laid (sc : Schedule) : Type 0 where
   pub some : 1 ≤ sc .count
   pub few : sc .count ≤ 64
   pub short : sc .total ≤ 4096
   pub rises : (i j : ℕ) → i < j → j ≤ sc .count → lastStep sc i < lastStep sc j
   pub ends : lastStep sc (sc .count) ≡ sc .total
-
--- one segment contains step k, and no other
-pub record ContainedOnce (sc : Schedule) (k : ℕ) : Type 0 where
-  pub some : 1 ≤ segmentOf sc k
-  pub few : segmentOf sc k ≤ sc .count
-  pub holds : contains sc (segmentOf sc k) k ≡ true
-  pub only : (i : ℕ) → 1 ≤ i → i ≤ sc .count → contains sc i k ≡ true → i ≡ segmentOf sc k

@@ -6,6 +6,5 @@ pub mod Walk
 pub mod Rates
 pub mod Laid
 pub mod Admitted
-pub mod Laws
 pub mod Trace
 pub mod Samples

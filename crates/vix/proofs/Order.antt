@@ -8,10 +8,13 @@ use native.Mathlib.Omega.{arith}
 use lib.ListN.{length, getD, length-append, List·getD-append}
 use lib.Seq.{getD-append-add}
 use lib.Ieee.{Float, nan}
+use Rattle.numeric.specs.Double.{plusZero}
+use Rattle.model.specs.declared.Kernel.{Kernel}
+use Rattle.model.specs.declared.RawParams.{RawParams}
 use Rattle.vix.specs.Form.{pairsBefore}
-use Rattle.vix.specs.Generator.{joined, pairsOfRow, pairsOfRows, inStateOrder, pairAt, integralAt, constantAt, InOrder}
+use Rattle.vix.specs.Generator.{joined, pairsOfRow, pairsOfRows, inStateOrder, pairAt, integralAt, constantAt, InOrder, meanCoefficient, pairCoefficient, constantCoefficient, varianceRow}
 use Rattle.vix.proofs.Pairs.{fewer-rows}
-use Rattle.vix.proofs.Places.{pair-up}
+use Rattle.vix.proofs.Places.{pair-up, dimension-is}
 use Rattle.vix.proofs.Appending.{length-singles, length-of-rows}
 
 -- past the first of two lists
@@ -85,7 +88,7 @@ module _ (n : ℕ) (mean : ℕ → Float) (pair : ℕ → ℕ → Float) (integr
   in-front : (k : ℕ) → k < integralAt n → getD row k nan ≡ getD (means ++ pairs) k nan
   in-front k h = in-most k (omega arith) ∙ within (means ++ pairs) (integral ∷ []) k front-long h
 
-  pub in-order : InOrder n mean pair integral constant row
+  in-order : InOrder n mean pair integral constant row
   unfolding inStateOrder
   in-order =
       record {
@@ -95,6 +98,7 @@ module _ (n : ℕ) (mean : ℕ → Float) (pair : ℕ → ℕ → Float) (integr
         integral-at = in-most (integralAt n) (omega arith) ∙ last (means ++ pairs) front-long;
         constant-at = last (means ++ pairs ++ integral ∷ []) most-long;
         long = length-append (means ++ pairs ++ integral ∷ []) (constant ∷ []) ∙ omega (arith, most-long);
+        dimension-is = dimension-is n;
       }
     where
       last : {x : Float} {k : ℕ} (a : List Float) → length a ≡ k → getD (a ++ x ∷ []) k nan ≡ x
@@ -109,3 +113,9 @@ module _ (n : ℕ) (mean : ℕ → Float) (pair : ℕ → ℕ → Float) (integr
           ∙ after means pairs (pairsBefore n i + (j - i)) (length-singles mean n)
           ∙ rows-at pair n n i (j - i) (omega arith) (omega arith) (omega arith)
           ∙ ap (pair i) m
+
+-- so it is of E[V]
+pub variance-in-order : (k : Kernel) (p : RawParams)
+    → InOrder (k .n) (meanCoefficient k p) (pairCoefficient k p) plusZero (constantCoefficient p) (varianceRow k p)
+unfolding varianceRow
+variance-in-order k p = in-order (k .n) (meanCoefficient k p) (pairCoefficient k p) plusZero (constantCoefficient p)

@@ -1,4 +1,5 @@
--- The moment system of the VIX: its state, and the generator over it (document 01, "VIX side"). Definitions only.
+-- The moment system of the VIX: its state, and the generator over it (document 01, "VIX side").
+-- Definitions only.
 -- With weights c and discounts gamma, the means m and the second moments M of the factors follow
 --   m_i'  = -gamma_i m_i - lambda × sum over k of c_k m_k
 --   M_ij' = -(gamma_i + gamma_j) M_ij - lambda × sum over k of c_k (M_kj + M_ik) + eta² E[V]
@@ -7,7 +8,7 @@
 use mathlib.Core.Path.{_≡_}
 use mathlib.Core.Bool.{false, cond}
 use mathlib.Core.List.{List, [], _∷_, _++_}
-use Prim.Native.Nat.{ℕ, zero, suc, _+_, _-_, _≤_, _<_, min, max}
+use Prim.Native.Nat.{ℕ, zero, suc, _+_, _-_, _*_, _/_, _≤_, _<_, min, max}
 use lib.Dec.{eqb}
 use lib.IntN.{pos}
 use lib.ListN.{length, getD, replicate}
@@ -26,7 +27,8 @@ unfoldable pub joined : (ℕ → List Float) → ℕ → List Float
 joined f zero = []
 joined f (suc n) = joined f n ++ f n
 
--- what there is for each pair (i, j) with i ≤ j: for the first k pairs of row i, and for those of the first i rows, of n factors
+-- what there is for each pair (i, j) with i ≤ j: for the first k pairs of row i, and for those of
+-- the first i rows, of n factors
 unfoldable pub pairsOfRow : (ℕ → ℕ → List Float) → ℕ → ℕ → List Float
 unfolding joined
 pairsOfRow pair i k = joined (λ m. pair i (i + m)) k
@@ -36,11 +38,14 @@ unfolding joined pairsOfRow
 pairsOfRows pair n i = joined (λ r. pairsOfRow pair r (n - r)) i
 
 -- "State order: n means, pairs (i, j) with i ≤ j row by row, integral w, constant."
-unfoldable pub inStateOrder : ℕ → (ℕ → List Float) → (ℕ → ℕ → List Float) → List Float → List Float → List Float
+unfoldable pub inStateOrder : ℕ → (ℕ → List Float) → (ℕ → ℕ → List Float)
+    → List Float → List Float → List Float
 unfolding joined pairsOfRows
-inStateOrder n mean pair integral constant = joined mean n ++ pairsOfRows pair n n ++ integral ++ constant
+inStateOrder n mean pair integral constant =
+    joined mean n ++ pairsOfRows pair n n ++ integral ++ constant
 
--- where they stand in it: mean i at i; the pair of i and j, in either order; the integral; the constant. `proofs/Order.antt` proves it (`InOrder`).
+-- where they stand in it: mean i at i; the pair of i and j, in either order; the integral; the
+-- constant
 abbrev pub pairAt : ℕ → ℕ → ℕ → ℕ
 pairAt n i j = n + pairsBefore n (min i j) + (max i j - min i j)
 
@@ -50,17 +55,20 @@ integralAt n = n + pairsBefore n n
 abbrev pub constantAt : ℕ → ℕ
 constantAt n = integralAt n + 1
 
--- which is n + n × (n + 1) / 2 + 2 (`proofs/Places.antt`, dimension-is)
 abbrev pub dimension : ℕ → ℕ
 dimension n = integralAt n + 2
 
-pub record InOrder (n : ℕ) (mean : ℕ → Float) (pair : ℕ → ℕ → Float) (integral constant : Float) (row : List Float) : Type 0 where
+-- The law of these places: in a row over the state each of them holds what belongs there, and the
+-- row is as long as n means, n × (n + 1) / 2 pairs, the integral and the constant.
+pub record InOrder (n : ℕ) (mean : ℕ → Float) (pair : ℕ → ℕ → Float) (integral constant : Float)
+    (row : List Float) : Type 0 where
   pub mean-at : (i : ℕ) → i < n → getD row i nan ≡ mean i
   pub pair-at : (i j : ℕ) → i ≤ j → j < n → getD row (pairAt n i j) nan ≡ pair i j
   pub same-pair : (i j : ℕ) → pairAt n j i ≡ pairAt n i j
   pub integral-at : getD row (integralAt n) nan ≡ integral
   pub constant-at : getD row (constantAt n) nan ≡ constant
   pub long : length row ≡ dimension n
+  pub dimension-is : dimension n ≡ n + n * (n + 1) / 2 + 2
 
 -- ---- E[V] as a row over the state
 
@@ -106,7 +114,8 @@ unfoldable pub pull : Kernel → RawParams → ℕ → Float
 unfolding mul neg
 pull k p m = times (neg (p .lambda)) (weight k m)
 
--- the row of mean i: -discount at its own column, then (-lambda) × weight at each mean; an entry of it after so many of these
+-- the row of mean i: -discount at its own column, then (-lambda) × weight at each mean; an entry of
+-- it after so many of these
 unfoldable pub meanEntry : Kernel → RawParams → ℕ → ℕ → ℕ → Float
 unfolding addedAt pull neg
 meanEntry k p i column zero = addedAt i (neg (discount k i)) column plusZero
@@ -116,7 +125,8 @@ unfoldable pub meanRow : Kernel → RawParams → ℕ → List Float
 unfolding tabulate meanEntry pairsBefore
 meanRow k p i = tabulate (dimension (k .n)) (λ column. meanEntry k p i column (k .n))
 
--- the row of the pair (i, j): -(discount + discount) at its own column, then for each m (-lambda) × weight at the pairs (m, j) and (i, m)
+-- the row of the pair (i, j): -(discount + discount) at its own column, then for each m
+-- (-lambda) × weight at the pairs (m, j) and (i, m)
 unfoldable pub driftEntry : Kernel → RawParams → ℕ → ℕ → ℕ → ℕ → Float
 unfolding addedAt pull add neg pairsBefore
 driftEntry k p i j column zero =
@@ -131,10 +141,13 @@ unfolding tabulate driftEntry varianceRow add mul pairsBefore
 pairRow k p i j =
     tabulate (dimension (k .n))
     (λ column.
-    plus (driftEntry k p i j column (k .n)) (times (times (p .eta) (p .eta)) (getD (varianceRow k p) column nan)))
+    plus (driftEntry k p i j column (k .n))
+    (times (times (p .eta) (p .eta)) (getD (varianceRow k p) column nan)))
 
 -- the integral's row is E[V], the constant's is zero; "then multiplied by the window"
 unfoldable pub generator : Kernel → RawParams → Float → List Float
 unfolding scaled inStateOrder meanRow pairRow varianceRow pairsBefore
 generator k p window =
-    scaled window (inStateOrder (k .n) (meanRow k p) (pairRow k p) (varianceRow k p) (replicate (dimension (k .n)) plusZero))
+    scaled window
+    (inStateOrder (k .n) (meanRow k p) (pairRow k p) (varianceRow k p)
+    (replicate (dimension (k .n)) plusZero))

@@ -4,10 +4,10 @@ ghost use mathlib.Core.List.{[], _∷_};
 ghost use Prim.Native.Nat.{ℕ, _+_, _-_, _≤_, _<_};
 ghost use lib.Ieee.{nan};
 ghost use lib.ListN.{length, getD, take, set};
-ghost use Rattle.numeric.specs.Double.{plus};
+ghost use Rattle.numeric.specs.Double.{plus, plusZero};
 ghost use Rattle.model.specs.Step.{kernelInUse};
 ghost use Rattle.vix.specs.Appended.{Appended};
-ghost use Rattle.vix.specs.Generator.{dimension, pairAt, joined, pairsOfRow, meanCoefficient, pairCoefficient, varianceRow, meanRow, driftEntry, pairRow};
+ghost use Rattle.vix.specs.Generator.{dimension, pairAt, joined, pairsOfRow, meanCoefficient, pairCoefficient, constantCoefficient, InOrder, varianceRow, meanRow, driftEntry, pairRow};
 use crate::state;
 use model::Kernel;
 use model::RawParams;
@@ -52,7 +52,9 @@ fn pair_coefficients(
 // E[V] as a row over the state.
 pub(crate) fn variance_row(k: Kernel, p: RawParams) -> [f64; 67]
     requires { ⌜ k .n ≤ 10 ⌝ }
-    ensures { λ r. ⌜ take (dimension (k .n)) r ≡ varianceRow (kernelInUse k) p ⌝ }
+    ensures row { λ r. ⌜ take (dimension (k .n)) r ≡ varianceRow (kernelInUse k) p ⌝ }
+    ensures order { λ r. ⌜ InOrder (k .n) (meanCoefficient (kernelInUse k) p)
+        (pairCoefficient (kernelInUse k) p) plusZero (constantCoefficient p) (take (dimension (k .n)) r) ⌝ }
 {
     let n = k.n;
     let mut row = mean_coefficients(k, p);

@@ -87,7 +87,7 @@ exponential-by-requires : tie.Need-exponential-by-requires
 exponential-by-requires c κs =
     let s = start (normed (c .before .before .before .before)) in
     let n = c .before .of-norm in
-    ((s .pre .0, s .pre .1), n .ensures .1 ∙ ap twoToMinus (sym (n .ensures .0)))
+    ((s .pre .0, s .pre .1), n .ensures .1 .0 ∙ ap twoToMinus (sym (n .ensures .0)))
 
 slice-reshare-prefix-is-finite : tie.Need-slice-reshare-prefix-is-finite
 slice-reshare-prefix-is-finite c = search needs

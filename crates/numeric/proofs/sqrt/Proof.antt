@@ -28,12 +28,18 @@ held : (c : tie.Start) → T (fits binary64 (c .args .x))
 held c = subst T (sym (c .good .0 .1)) tt
 
 -- the law of the root comes with the equation
-answered : (c : tie.Start) (r : Float) → r ≡ root binary64 (c .args .x) → (r ≡ root binary64 (c .args .x)) × RootIsNearest (c .args .x) r
-answered c r e = (e, subst (RootIsNearest (c .args .x)) (sym e) (root-is-nearest (c .args .x) (held c)))
+abbrev Answered : Float → Float → Type 0
+Answered x r = (r ≡ root binary64 x) × RootIsNearest x r
+
+answered : (c : tie.Start) (r : Float) → r ≡ root binary64 (c .args .x) → Answered (c .args .x) r
+answered c r e =
+    (e, subst (RootIsNearest (c .args .x)) (sym e) (root-is-nearest (c .args .x) (held c)))
 
 -- the root is that of what the pattern stands for
-by-pattern : (c : tie.Start) (r : Float) → r ≡ root binary64 (ofBits binary64 (toBits binary64 (c .args .x))) → (r ≡ root binary64 (c .args .x)) × RootIsNearest (c .args .x) r
-by-pattern c r e = answered c r (e ∙ ap (root binary64) (ofBits-toBits binary64 (c .args .x) (held c)))
+by-pattern : (c : tie.Start) (r : Float)
+    → r ≡ root binary64 (ofBits binary64 (toBits binary64 (c .args .x))) → Answered (c .args .x) r
+by-pattern c r e =
+    answered c r (e ∙ ap (root binary64) (ofBits-toBits binary64 (c .args .x) (held c)))
 
 magnitude : (c : tie.Else1) → toBits binary64 (c .before .args .x) % 2 ^ 63 ≤ 2047 * 2 ^ 52
 magnitude c = at-most-inf (c .before .args .x) (held (c .before)) (same-no-nan (c .before .args .x) (c .if1 .left))

@@ -1,9 +1,11 @@
 -- `of_norm` meets its contract: the search goes on where the bound is below the norm. Assumes nothing.
-use mathlib.Core.Path.{ap, _∙_}
+use mathlib.Core.Path.{sym, ap, _∙_, subst}
 use Prim.Native.Nat.{_<_, _-_}
 use native.Mathlib.Omega.{arith}
+use lib.Dec.{T}
 use lib.Ieee.{ofBits}
-use Rattle.matrix.specs.Exponential.{twoToMinus}
+use Rattle.matrix.specs.Exponential.{twoToMinus, IsLeast}
+use Rattle.matrix.proofs.Least.{squarings-least}
 use Rattle.matrix.proofs.Powers.{Searching, searching-none, searching-under, searching-more, searching-done}
 use Rattle.matrix.proofs.scaling.of_norm.Statement.{statement}
 use Rattle.matrix.proofs.scaling.of_norm.Tie as tie
@@ -32,7 +34,12 @@ unfolding ofBits
 loop-again c = searching-more _ _ _ _ (c .before .before .pre) (c .before .loop .inv) (c .loop-test .taken)
 
 returns : tie.Need-returns Inv-loop μ-loop
-returns c = let e = searching-done _ _ _ _ (c .before .before .pre) (c .before .loop .inv) (c .loop-test .left) in (e, c .before .loop .inv .factor-is ∙ ap twoToMinus e)
+returns c =
+    let start = c .before .before in
+    let e = searching-done _ _ _ _ (start .pre) (c .before .loop .inv) (c .loop-test .left) in
+    let double = subst T (sym (start .good .0 .1)) tt in
+    let least = subst (IsLeast (start .args .norm)) (sym e) (squarings-least (start .args .norm) double (start .pre)) in
+    (e, (c .before .loop .inv .factor-is ∙ ap twoToMinus e, least))
 
 pub of-norm-spec : {M : Type 1} → statement M
 of-norm-spec =

@@ -72,7 +72,7 @@ returns c =
     let means = pairs .before .before .before .before in
     let variance = means .before .before in
     let start = variance .before .before in
-    generator-written (start .args .k) (start .args .p) (start .args .window) (start .pre .1) (variance .variance-row .result) (start .pre .0) (variance .variance-row .ensures) (search needs)
+    generator-written (start .args .k) (start .args .p) (start .args .window) (start .pre .1) (variance .variance-row .result) (start .pre .0) (variance .variance-row .ensures .0) (search needs)
     (means .store-means .ensures) (pairs .store-pairs .ensures) (row .store-row .ensures) (last .store-row2 .ensures)
 
 pub fill-spec : {M : Type 1} → statement M

@@ -13,14 +13,20 @@ use Rattle.model.specs.declared.RawParams.{RawParams}
 use Rattle.model.specs.Step.{kernelInUse}
 use Rattle.vix.specs.Appended.{Appended}
 use Rattle.vix.specs.Form.{pairsBefore}
-use Rattle.vix.specs.Generator.{dimension, integralAt, pairsOfRows, meanCoefficient, pairCoefficient, varianceRow}
+use Rattle.vix.specs.Generator.{dimension, integralAt, pairsOfRows, meanCoefficient, pairCoefficient, constantCoefficient, varianceRow, InOrder}
 use Rattle.vix.proofs.Places.{integral-most, first-pair, row-inside}
 use Rattle.vix.proofs.Appending.{appended-one, rows-none, rows-more, order-written, length-of-rows, is-front, length-singles}
+use Rattle.vix.proofs.Order.{variance-in-order}
 use Rattle.vix.proofs.rows.variance_row.Statement.{statement}
 use Rattle.vix.proofs.rows.variance_row.Tie as tie
 
 abbrev coefficient : Kernel → RawParams → ℕ → ℕ → List Float
 coefficient k p i j = pairCoefficient (kernelInUse k) p i j ∷ []
+
+abbrev InVarianceOrder : Kernel → RawParams → List Float → Type 0
+InVarianceOrder k p row =
+    InOrder (k .n) (meanCoefficient (kernelInUse k) p) (pairCoefficient (kernelInUse k) p) plusZero
+    (constantCoefficient p) row
 
 abbrev Inv-loop : tie.InvT-loop
 Inv-loop k p n row₀ at₀ i₀ row at i = (i ≤ n) × (n ≤ 10) × (n ≡ k .n) × (at ≡ n + pairsBefore n i) × (at ≤ 65) × (length row ≡ 67) × Appended n (pairsOfRows (coefficient k p) n i) row₀ row
@@ -98,11 +104,13 @@ returns c =
     let pairs = subst (λ (i : ℕ). Appended n (pairsOfRows (coefficient k (start .args .p)) n i) (at .before .mean-coefficients .result) row) e (at .loop .inv .6) in
     let first : at .loop .at < length row = omega (arith, at .loop .inv .4, at .loop .inv .5) in
     let second : at .loop .at + 1 < length (set row (at .loop .at) plusZero) = omega (arith, length-set row (at .loop .at) plusZero, at .loop .inv .4, at .loop .inv .5) in
+    let is =
     order-written 1 n (λ i. meanCoefficient (kernelInUse k) (start .args .p) i ∷ []) (coefficient k (start .args .p)) (λ i. refl) (λ i j. refl) refl refl (dimension n)
     (is-front [] (at .before .mean-coefficients .result) (at .before .mean-coefficients .ensures) (length-singles _ n))
     pairs (omega arith)
     (appended-one (at .loop .at) row plusZero first) (place ∙ omega arith)
-    (appended-one (at .loop .at + 1) (set row (at .loop .at) plusZero) _ second) (omega (arith, place)) (omega arith)
+    (appended-one (at .loop .at + 1) (set row (at .loop .at) plusZero) _ second) (omega (arith, place)) (omega arith) in
+    (is, subst (InVarianceOrder k (start .args .p)) (sym is) (variance-in-order (kernelInUse k) (start .args .p)))
 
 pub variance-row-spec : {M : Type 1} → statement M
 variance-row-spec =
