@@ -1,4 +1,5 @@
--- Demand 3 of an admitted batch, from what its run answers and leaves in the table. Assumes nothing.
+-- What an admitted batch's run claims, from what it answers and leaves in the table. Assumes
+-- nothing.
 use mathlib.Core.Path.{_≡_, refl, sym, _∙_, ap, subst}
 use mathlib.Core.Bool.{true}
 use mathlib.Core.Option.{Option, none, some}
@@ -21,16 +22,23 @@ use Rattle.model.proofs.Stops.{StopsAt, stop-finite, finite-stop, stop-first}
 use Rattle.model.proofs.Containment.{contains-yes, segment-of, segment-at, segment-only}
 use Rattle.model.proofs.FiniteStates.{walk-sound}
 use Rattle.batch.specs.declared.Run.{Run}
-use Rattle.batch.specs.declared.Run.the-variants.{Done, NonFinite as Refused}
-use Rattle.walks.specs.Batch.{Batch, walkOf, nonPositivePaths, observation}
-use Rattle.batch.specs.Run.{RunStop, onPath, runStop, answerAt, runAnswer, entryAfter, tableAfter}
-use Rattle.batch.specs.Claim.{OneTo, stateOf, FiniteAt, StepTaken, FiniteBefore, FirstFailure, Answered, Reaches, entry, Written, Demand3}
+use Rattle.batch.specs.declared.Run.the-variants.{Done, NonFinite as Stopped}
+use Rattle.walks.specs.Batch.{Batch, walkOf, nonPositivePaths}
+use Rattle.batch.specs.Run.{RunStop, onPath, runStop}
+use Rattle.walks.specs.Batch.{observation}
+use Rattle.batch.specs.Run.{answerAt, runAnswer, entryAfter, tableAfter}
+use Rattle.batch.specs.Claim.{OneTo, stateOf, FiniteAt, StepTaken, PlainWalks, FiniteBefore}
+use Rattle.batch.specs.Claim.{FirstFailure, Reaches, entry, Written}
+use Rattle.batch.specs.RunClaim.{RunEnds, RunClaim}
 use Rattle.walks.proofs.Cells.{row-below}
 use Rattle.batch.proofs.Stops.{runStopAt, entry-new, entry-run, entry-path}
 
 -- ---- 1
 module _ (b : Batch) (laid : Laid (b .schedule)) where
-  only : (k g : ℕ) → g < b .schedule .count → lastStep (b .schedule) g < k → k ≤ lastStep (b .schedule) (suc g) → (j : ℕ) → OneTo (b .schedule .count) j → contains (b .schedule) j k ≡ true → j ≡ suc g
+  only :
+      (k g : ℕ) → g < b .schedule .count → lastStep (b .schedule) g < k
+      → k ≤ lastStep (b .schedule) (suc g) → (j : ℕ) → OneTo (b .schedule .count) j
+      → contains (b .schedule) j k ≡ true → j ≡ suc g
   only k g l lo hi zero i e = absurd (omega (arith, i .from))
   only k g l lo hi (suc j) i e = ap suc (segment-only (b .schedule) laid g j k l (i .upto) lo hi e)
 
@@ -52,7 +60,9 @@ path-none : (p : ℕ) (o : Option Stop) → onPath p o ≡ none → o ≡ none
 path-none p none e = refl
 path-none p (some x) e = absurd (none-some _ (sym e))
 
-path-some : (p : ℕ) (o : Option Stop) (x : RunStop) → onPath p o ≡ some x → (x .path ≡ p) × (o ≡ some (x .stop))
+path-some :
+    (p : ℕ) (o : Option Stop) (x : RunStop) → onPath p o ≡ some x
+    → (x .path ≡ p) × (o ≡ some (x .stop))
 path-some p none x e = absurd (none-some x e)
 path-some p (some y) x e =
     let same : runStopAt p y ≡ x = cc in
@@ -63,44 +73,61 @@ module _ (b : Batch) where
   run-finite : (n : ℕ) → runStop b n ≡ none → FiniteBefore b (suc n)
   unfolding runStop
   run-finite n e r k h l i =
-      stop-finite (walkOf b r) (b .schedule .total) (path-none r _ (none-at _ n r e h (omega arith))) k (i .from) (i .upto)
+      stop-finite (walkOf b r) (b .schedule .total)
+      (path-none r _ (none-at _ n r e h (omega arith))) k (i .from) (i .upto)
 
   finite-run : (n : ℕ) → FiniteBefore b (suc n) → runStop b n ≡ none
   unfolding runStop
   finite-run n h =
       none-all _ n
       (λ r l m.
-      rw (finite-stop (walkOf b r) (b .schedule .total) (λ k i j. h r k l (omega arith) (record { from = i; upto = j }))))
+      rw
+      (finite-stop (walkOf b r) (b .schedule .total)
+      (λ k i j. h r k l (omega arith) (record { from = i; upto = j }))))
 
   -- and where it stops is the first failure
-  run-first : (n : ℕ) (x : RunStop) → n ≤ b .paths → runStop b n ≡ some x → FirstFailure b (x .path) (x .stop .step) (x .stop .quantity)
+  run-first :
+      (n : ℕ) (x : RunStop) → n ≤ b .paths → runStop b n ≡ some x
+      → FirstFailure b (x .path) (x .stop .step) (x .stop .quantity)
   unfolding runStop
   run-first n x few e =
       let r = first-at _ n x e in
       let here = path-some (r .0) _ x (r .1 .here) in
       let stops : StopsAt (walkOf b (x .path)) (b .schedule .total) (x .stop) =
-      stop-first (walkOf b (x .path)) (b .schedule .total) (x .stop) (subst (λ (p : ℕ). stopWithin (walkOf b p) (b .schedule .total) ≡ some (x .stop)) (sym (here .0)) (here .1)) in
+      stop-first (walkOf b (x .path)) (b .schedule .total) (x .stop)
+      (subst (λ (p : ℕ). stopWithin (walkOf b p) (b .schedule .total) ≡ some (x .stop))
+      (sym (here .0)) (here .1)) in
       record {
-        is-path = record { from = omega (arith, r .1 .from, here .0); upto = omega (arith, r .1 .upto, here .0) };
+        is-path =
+            record {
+              from = omega (arith, r .1 .from, here .0);
+              upto = omega (arith, r .1 .upto, here .0);
+            };
         is-step = record { from = stops .from; upto = stops .upto };
         fails = stops .fails;
         first-step = stops .earlier;
         first-path = λ p k h l i.
-            stop-finite (walkOf b p) (b .schedule .total) (path-none p _ (r .1 .earlier p h (omega (arith, here .0)))) k (i .from) (i .upto);
+            stop-finite (walkOf b p) (b .schedule .total)
+            (path-none p _ (r .1 .earlier p h (omega (arith, here .0)))) k (i .from) (i .upto);
       }
 
-  done-apart : (s l p k : ℕ) (q : Quantity) (t : ℕ) → Done s l ≡ Refused p k q t → ⊥
+  done-apart : (s l p k : ℕ) (q : Quantity) (t : ℕ) → Done s l ≡ Stopped p k q t → ⊥
   done-apart s l p k q t e = let z : _≡_ {A = ℕ} 0 1 = cc in omega arith
 
-  finite-apart : (p k : ℕ) (q : Quantity) → finiteness (stateOf b p k) ≡ NonFinite q → FiniteAt b p k → ⊥
+  finite-apart :
+      (p k : ℕ) (q : Quantity) → finiteness (stateOf b p k) ≡ NonFinite q → FiniteAt b p k → ⊥
   finite-apart p k q e f = let z : _≡_ {A = ℕ} 0 1 = cc in omega arith
 
-  same-failure : {p p′ k k′ : ℕ} {q q′ : Quantity} → p ≡ p′ → k ≡ k′ → q ≡ q′ → FirstFailure b p k q → FirstFailure b p′ k′ q′
+  same-failure :
+      {p p′ k k′ : ℕ} {q q′ : Quantity} → p ≡ p′ → k ≡ k′ → q ≡ q′ → FirstFailure b p k q
+      → FirstFailure b p′ k′ q′
   same-failure a c d f = rw (a, c, d) at f
 
-  -- a refused answer names the first failure
-  refused-at : (x : RunStop) → FirstFailure b (x .path) (x .stop .step) (x .stop .quantity) → Answered b (answerAt b (some x))
-  refused-at x f =
+  -- a run that stops names the first failure
+  stopped-at :
+      (x : RunStop) → FirstFailure b (x .path) (x .stop .step) (x .stop .quantity)
+      → RunEnds b (answerAt b (some x))
+  stopped-at x f =
       record {
         exactly = (
           λ u.
@@ -113,7 +140,7 @@ module _ (b : Batch) where
               },
           λ u. tt,
         );
-        refused = λ p k q steps e.
+        stopped = λ p k q steps e.
             let a : x .path ≡ p = cc in
             let c : x .stop .step ≡ k = cc in
             let d : x .stop .quantity ≡ q = cc in
@@ -124,73 +151,114 @@ module _ (b : Batch) where
         done = λ s l e. absurd (done-apart s l _ _ _ _ (sym e));
       }
 
-  answered : Answered b (runAnswer b)
+  ends : RunEnds b (runAnswer b)
   unfolding runAnswer
-  answered = go (runStop b (b .paths)) refl
+  ends = go (runStop b (b .paths)) refl
     where
-      go : (o : Option RunStop) → runStop b (b .paths) ≡ o → Answered b (answerAt b o)
+      go : (o : Option RunStop) → runStop b (b .paths) ≡ o → RunEnds b (answerAt b o)
       go none e =
           record {
-            exactly = (λ u. absurd u, λ s. s .fails (run-finite (b .paths) e (s .path) (s .step) (s .is-path .from) (omega (arith, s .is-path .upto)) (s .is-step)));
-            refused = λ p k q steps h. absurd (done-apart _ _ p k q steps h);
-            done = λ s l h. (let t : b .paths * b .schedule .total ≡ s = cc in sym t, let t : nonPositivePaths b (b .paths) ≡ l = cc in sym t);
+            exactly = (
+              λ u. absurd u,
+              λ s.
+                  s .fails
+                  (run-finite (b .paths) e (s .path) (s .step) (s .is-path .from)
+                  (omega (arith, s .is-path .upto)) (s .is-step)),
+            );
+            stopped = λ p k q steps h. absurd (done-apart _ _ p k q steps h);
+            done = λ s l h. (
+              let t : b .paths * b .schedule .total ≡ s = cc in sym t,
+              let t : nonPositivePaths b (b .paths) ≡ l = cc in sym t,
+            );
           }
-      go (some x) e = refused-at x (run-first (b .paths) x (omega arith) e)
+      go (some x) e = stopped-at x (run-first (b .paths) x (omega arith) e)
 
 -- ---- 3
-module _ (b : Batch) (lent : List Float) (one : 1 ≤ b .schedule .count) (rows : length lent ≡ b .paths * b .schedule .count) where
-  -- the entry of row p and column j
-  entry-is : (q j : ℕ) → q < b .paths → j < b .schedule .count → entry b (tableAfter b lent) (suc q) (suc j) ≡ entryAfter b (suc q) (suc j) (entry b lent (suc q) (suc j))
-  unfolding tableAfter
-  entry-is q j h l =
-      let n = b .schedule .count in
-      getD-tabulate (length lent) (q * n + j) _ nan (rw rows (row-below q (b .paths) n j h l))
-      ∙ rw (digits-div q l, digits-mod q l)
+module _
+    (b : Batch) (lent : List Float) (one : 1 ≤ b .schedule .count)
+    (rows : length lent ≡ b .paths * b .schedule .count)
+  where
+    -- the entry of row p and column j
+    entry-is :
+        (q j : ℕ) → q < b .paths → j < b .schedule .count
+        → entry b (tableAfter b lent) (suc q) (suc j)
+        ≡ entryAfter b (suc q) (suc j) (entry b lent (suc q) (suc j))
+    unfolding tableAfter
+    entry-is q j h l =
+        let n = b .schedule .count in
+        getD-tabulate (length lent) (q * n + j) _ nan (rw rows (row-below q (b .paths) n j h l))
+        ∙ rw (digits-div q l, digits-mod q l)
 
-  reaches : (q j : ℕ) → runStop b q ≡ none → stopWithin (walkOf b (suc q)) (lastStep (b .schedule) j) ≡ none → Reaches b (suc q) j
-  reaches q j h l =
-      record { steps = stop-finite (walkOf b (suc q)) (lastStep (b .schedule) j) l; paths = run-finite b q h }
+    reaches :
+        (q j : ℕ) → runStop b q ≡ none
+        → stopWithin (walkOf b (suc q)) (lastStep (b .schedule) j) ≡ none → Reaches b (suc q) j
+    reaches q j h l =
+        record {
+          steps = stop-finite (walkOf b (suc q)) (lastStep (b .schedule) j) l;
+          paths = run-finite b q h;
+        }
 
-  kept : (q j : ℕ) (x : Float) → (Reaches b (suc q) j → ⊥) → entryAfter b (suc q) j x ≡ x
-  kept q j x h = go (runStop b q) (stopWithin (walkOf b (suc q)) (lastStep (b .schedule) j)) refl refl
-    where
-      go : (o : Option RunStop) (s : Option Stop) → runStop b q ≡ o → stopWithin (walkOf b (suc q)) (lastStep (b .schedule) j) ≡ s → entryAfter b (suc q) j x ≡ x
-      go none none e f = absurd (h (reaches q j e f))
-      go none (some y) e f = entry-path b q j x y e f
-      go (some y) s e f = entry-run b q j x y e
+    kept : (q j : ℕ) (x : Float) → (Reaches b (suc q) j → ⊥) → entryAfter b (suc q) j x ≡ x
+    kept q j x h =
+        go (runStop b q) (stopWithin (walkOf b (suc q)) (lastStep (b .schedule) j)) refl refl
+      where
+        go :
+            (o : Option RunStop) (s : Option Stop) → runStop b q ≡ o
+            → stopWithin (walkOf b (suc q)) (lastStep (b .schedule) j) ≡ s
+            → entryAfter b (suc q) j x ≡ x
+        go none none e f = absurd (h (reaches q j e f))
+        go none (some y) e f = entry-path b q j x y e f
+        go (some y) s e f = entry-run b q j x y e
 
-  table-long : length (tableAfter b lent) ≡ length lent
-  unfolding tableAfter
-  table-long = length-tabulate (length lent) _
+    table-long : length (tableAfter b lent) ≡ length lent
+    unfolding tableAfter
+    table-long = length-tabulate (length lent) _
 
-  observed : (p j : ℕ) → OneTo (b .paths) p → OneTo (b .schedule .count) j → Reaches b p j → entry b (tableAfter b lent) p j ≡ observation b p j
-  observed zero j h l r = absurd (omega (arith, h .from))
-  observed (suc q) zero h l r = absurd (omega (arith, l .from))
-  observed (suc q) (suc j) h l r =
-      entry-is q j (h .upto) (l .upto)
-      ∙ entry-new b q (suc j) _ (finite-run b q (r .paths)) (finite-stop (walkOf b (suc q)) _ (r .steps))
+    observed :
+        (p j : ℕ) → OneTo (b .paths) p → OneTo (b .schedule .count) j → Reaches b p j
+        → entry b (tableAfter b lent) p j ≡ observation b p j
+    observed zero j h l r = absurd (omega (arith, h .from))
+    observed (suc q) zero h l r = absurd (omega (arith, l .from))
+    observed (suc q) (suc j) h l r =
+        entry-is q j (h .upto) (l .upto)
+        ∙ entry-new b q (suc j) _ (finite-run b q (r .paths))
+        (finite-stop (walkOf b (suc q)) _ (r .steps))
 
-  untouched : (p j : ℕ) → OneTo (b .paths) p → OneTo (b .schedule .count) j → (Reaches b p j → ⊥) → entry b (tableAfter b lent) p j ≡ entry b lent p j
-  untouched zero j h l r = absurd (omega (arith, h .from))
-  untouched (suc q) zero h l r = absurd (omega (arith, l .from))
-  untouched (suc q) (suc j) h l r = entry-is q j (h .upto) (l .upto) ∙ kept q (suc j) _ r
+    untouched :
+        (p j : ℕ) → OneTo (b .paths) p → OneTo (b .schedule .count) j → (Reaches b p j → ⊥)
+        → entry b (tableAfter b lent) p j ≡ entry b lent p j
+    untouched zero j h l r = absurd (omega (arith, h .from))
+    untouched (suc q) zero h l r = absurd (omega (arith, l .from))
+    untouched (suc q) (suc j) h l r = entry-is q j (h .upto) (l .upto) ∙ kept q (suc j) _ r
 
-  written : Written b lent (tableAfter b lent)
-  unfolding observation
-  written = record { long = table-long; observed = observed; untouched = untouched }
+    written : Written b lent (tableAfter b lent)
+    unfolding observation
+    written = record { long = table-long; observed = observed; untouched = untouched }
 
 -- ---- the claim
-pub demand3 : (b : Batch) → Laid (b .schedule) → Admitted (b .kernel) (b .raw) (b .start) → (lent after : List Float) (answer : Run) → length lent ≡ b .paths * b .schedule .count → answer ≡ runAnswer b → after ≡ tableAfter b lent → Demand3 b lent after answer
-unfolding stateAfter
-demand3 b laid admitted lent after answer rows a t =
-    record {
-      starts = λ p. refl;
-      steps = λ p k h l. step-of b laid p k l;
-      answered = subst (Answered b) (sym a) (answered b);
-      written = subst (Written b lent) (sym t) (written b lent (laid .some) rows);
-      sound = λ p k h l. walk-sound (walkOf b p) admitted k;
-    }
+module _
+    (b : Batch) (laid : Laid (b .schedule)) (admitted : Admitted (b .kernel) (b .raw) (b .start))
+    (lent after : List Float) (answer : Run) (rows : length lent ≡ b .paths * b .schedule .count)
+    (a : answer ≡ runAnswer b) (t : after ≡ tableAfter b lent)
+  where
+    walks : PlainWalks b
+    unfolding stateAfter
+    walks =
+        record {
+          starts = λ p. refl;
+          steps = λ p k h l. step-of b laid p k l;
+          sound = λ p k h l. walk-sound (walkOf b p) admitted k;
+        }
 
--- what a run ensures
-pub with-claim : (b : Batch) → Laid (b .schedule) → Admitted (b .kernel) (b .raw) (b .start) → (lent after : List Float) (answer : Run) → length lent ≡ b .paths * b .schedule .count → answer ≡ runAnswer b → after ≡ tableAfter b lent → (answer ≡ runAnswer b) × ((after ≡ tableAfter b lent) × Demand3 b lent after answer)
-with-claim b laid admitted lent after answer rows a t = (a, (t, demand3 b laid admitted lent after answer rows a t))
+    pub run-claim : RunClaim b lent after answer
+    run-claim =
+        record {
+          walks = walks;
+          ends = subst (RunEnds b) (sym a) (ends b);
+          written = subst (Written b lent) (sym t) (written b lent (laid .some) rows);
+        }
+
+    -- what a run ensures
+    pub with-claim :
+        (answer ≡ runAnswer b) × ((after ≡ tableAfter b lent) × RunClaim b lent after answer)
+    with-claim = (a, (t, run-claim))

@@ -7,3 +7,4 @@ pub mod Columns
 pub mod Squared
 pub mod Values
 pub mod Groups
+pub mod Report

@@ -1,24 +1,88 @@
--- Demand 3, one claim about a whole batch with its list of draws: "For every admitted batch, whatever its draws: every step of every plain walk is taken once, with
--- the dt of the only segment that contains it; refusal 22 exactly when some plain walk goes non-finite, naming the first path, step and quantity and the steps taken;
--- every observation is the plain walk's; the rest of the table stays as lent; states stay finite and the variance at least c." It speaks of the plain walk and of the
--- schedule alone. Definitions only.
+-- The batch's claim, which is demand 3, "one claim about a whole batch with its list of draws":
+--
+-- "For every admitted batch, whatever its list of draws holds, the plain walk of document 01 on
+-- each path takes every step, up to its stop or step N, once, with the dt of the only segment that
+-- contains it. The batch stops as non-finite, number 22, exactly when some step of the plain walk
+-- on some path gives a non-finite spot, z or variance. It names the first such path p, its first
+-- such step k of N and the first of the three, and steps taken = (p - 1) × N + k; otherwise steps
+-- taken = paths × N, and what the batch reports, or its refusal 23 to 25, is what document 01 makes
+-- of the plain walks. Whichever segment end a path, no path before it having stopped, reaches with
+-- finite spot, z and variance, say at step j, an observation is written there: bit for bit, any NaN
+-- counting as any other, the one read from the state of its plain walk after j steps. The rest of
+-- the observation table stays as lent. Every state of a plain walk, the start included and only the
+-- one it stops with left out, has finite spot, z, variance and factors, and variance at least c as
+-- converted."
+--
+-- It is said of the answer as it crosses the edge and of the table after the call, and speaks of
+-- the plain walks, the schedule and the payoff alone, not of how the paths are run. At a field
+-- stands which wrong cores it excludes: crates/figures/specs/Excluded.antt proves it, each by that
+-- field. Definitions only.
 use mathlib.Core.Path.{_≡_}
 use mathlib.Core.Bool.{true}
-use mathlib.Core.List.{List}
+use mathlib.Core.List.{List, [], _∷_}
 use mathlib.Core.Logic.{_↔_}
 use Prim.Native.Nat.{ℕ, pred, _+_, _*_, _<_, _≤_}
 use lib.ListN.{length, getD}
 use lib.Ieee.{Float, nan}
+use Rattle.numeric.specs.Double.{plusZero}
 use Rattle.refusal.specs.declared.Quantity.{Quantity}
+use Rattle.refusal.specs.declared.Refusal.{Refusal}
+use Rattle.refusal.specs.Refusal.{quantityNumber, numberOf, placeOf, noPlace}
 use Rattle.model.specs.declared.Finiteness.the-variants.{Finite, NonFinite}
 use Rattle.model.specs.declared.State.{State}
 use Rattle.model.specs.Step.{step, finiteness}
 use Rattle.model.specs.Schedule.{lastStep, contains}
 use Rattle.model.specs.Walk.{stateAfter}
 use Rattle.model.specs.Admitted.{Sound}
-use Rattle.batch.specs.declared.Run.{Run}
-use Rattle.batch.specs.declared.Run.the-variants.{Done, NonFinite as Refused}
+use Rattle.walks.specs.declared.Observed.{Observed}
+use Rattle.walks.specs.declared.Observed.the-variants.{Spot, VixSquared}
+use Rattle.batch.specs.declared.Payoff.{Payoff}
+use Rattle.batch.specs.declared.Estimates.{Estimates}
 use Rattle.walks.specs.Batch.{Batch, walkOf, nonPositivePaths}
+use Rattle.batch.specs.Moments.{reported}
+
+-- ---- the answer as it crosses the edge
+
+-- number and place, 0 and no place where the batch is priced; the four estimates in reported order;
+-- the paths, with the non-positive ones where they are reported; and the steps taken
+pub record BatchAnswer : Type 0 where
+  pub number : ℕ
+  pub place : List ℕ
+  pub doubles : List Float
+  pub counts : List ℕ
+  pub steps : ℕ
+
+-- a vanilla batch reports "paths and non-positive paths", a VIX batch "paths"
+abbrev pub countsOf : Observed → ℕ → ℕ → List ℕ
+countsOf Spot paths nonPositive = paths ∷ nonPositive ∷ []
+countsOf VixSquared paths nonPositive = paths ∷ []
+
+-- at a refusal the values are zeros
+abbrev pub noDoubles : List Float
+noDoubles = plusZero ∷ plusZero ∷ plusZero ∷ plusZero ∷ []
+
+abbrev pub refusedAnswer : Observed → ℕ → Refusal → BatchAnswer
+refusedAnswer observed steps refusal =
+    record {
+      number = numberOf refusal;
+      place = placeOf refusal;
+      doubles = noDoubles;
+      counts = countsOf observed 0 0;
+      steps = steps;
+    }
+
+abbrev pub pricedAnswer : Observed → ℕ → ℕ → ℕ → Estimates → BatchAnswer
+pricedAnswer observed steps paths nonPositive e =
+    record {
+      number = 0;
+      place = noPlace;
+      doubles =
+          e .payoff .mean ∷ e .payoff .error ∷ e .underlying .mean ∷ e .underlying .error ∷ [];
+      counts = countsOf observed paths nonPositive;
+      steps = steps;
+    }
+
+-- ---- the plain walks
 
 -- i is one of 1, .. n: paths, steps and segments count from 1
 pub record OneTo (n i : ℕ) : Type 0 where
@@ -33,20 +97,32 @@ stateOf b p k = stateAfter (walkOf b p) k
 abbrev pub FiniteAt : Batch → ℕ → ℕ → Type 0
 FiniteAt b p k = finiteness (stateOf b p k) ≡ Finite
 
--- ---- 1: "every step of every plain walk is taken once, with the dt of the only segment that contains it"
-
--- Step k of path p goes from the state before it, with the path's draw k and with dt and sqrt_dt of one segment, the only one that contains it.
+-- "takes every step .. once, with the dt of the only segment that contains it": step k of path p
+-- goes from the state before it, with the path's draw k and with dt and sqrt_dt of that segment
 pub record StepTaken (b : Batch) (p k : ℕ) : Type 0 where
   pub segment : ℕ
   pub is-segment : OneTo (b .schedule .count) segment
   pub contained : contains (b .schedule) segment k ≡ true
-  pub only : (j : ℕ) → OneTo (b .schedule .count) j → contains (b .schedule) j k ≡ true → j ≡ segment
+  pub only :
+      (j : ℕ) → OneTo (b .schedule .count) j → contains (b .schedule) j k ≡ true → j ≡ segment
   pub goes :
       stateOf b p k
-      ≡ step (b .kernel) (b .raw) (stateOf b p (pred k)) (b .draw p k) (getD (b .schedule .dt) (pred segment) nan)
-      (getD (b .schedule .«sqrt_dt») (pred segment) nan)
+      ≡ step (b .kernel) (b .raw) (stateOf b p (pred k)) (b .draw p k)
+      (getD (b .schedule .dt) (pred segment) nan) (getD (b .schedule .«sqrt_dt») (pred segment) nan)
 
--- ---- 2: "refusal 22 exactly when some plain walk goes non-finite, naming the first path, step and quantity and the steps taken"
+-- What the states are that the rest of the claim speaks of.
+pub record PlainWalks (b : Batch) : Type 0 where
+  -- "It starts at the parameters": no path starts where another ended
+  pub starts : (p : ℕ) → stateOf b p 0 ≡ b .start
+  -- no step is taken again in the next segment, or with its dt
+  pub steps : (p k : ℕ) → OneTo (b .paths) p → OneTo (b .schedule .total) k → StepTaken b p k
+  -- "Every state of a plain walk, the start included and only the one it stops with left out": none
+  -- goes on from a factor that is not finite, or from a variance below c
+  pub sound :
+      (p k : ℕ) → OneTo (b .paths) p → k ≤ b .schedule .total
+      → ((j : ℕ) → 1 ≤ j → j ≤ k → FiniteAt b p j) → Sound (b .kernel) (b .raw) (stateOf b p k)
+
+-- ---- "some step of the plain walk on some path gives a non-finite spot, z or variance"
 
 pub record SomeStepFails (b : Batch) : Type 0 where
   pub path : ℕ
@@ -59,7 +135,7 @@ pub record SomeStepFails (b : Batch) : Type 0 where
 abbrev pub FiniteBefore : Batch → ℕ → Type 0
 FiniteBefore b p = (r k : ℕ) → 1 ≤ r → r < p → OneTo (b .schedule .total) k → FiniteAt b r k
 
--- the first path with a step that is not finite, its first such step, and the first of spot, z and variance that is not finite there
+-- "the first such path p, its first such step k of N and the first of the three"
 pub record FirstFailure (b : Batch) (p k : ℕ) (q : Quantity) : Type 0 where
   pub is-path : OneTo (b .paths) p
   pub is-step : OneTo (b .schedule .total) k
@@ -67,20 +143,33 @@ pub record FirstFailure (b : Batch) (p k : ℕ) (q : Quantity) : Type 0 where
   pub first-step : (j : ℕ) → 1 ≤ j → j < k → FiniteAt b p j
   pub first-path : FiniteBefore b p
 
--- the answer is number 22
-abbrev pub IsRefused : Run → Type 0
-IsRefused (Done steps low) = ⊥
-IsRefused (Refused p k q steps) = Unit {0}
+-- "It names the first such path p, .. and steps taken = (p - 1) × N + k"
+pub record NamesFirst (b : Batch) (observed : Observed) (answer : BatchAnswer) : Type 0 where
+  pub path : ℕ
+  pub step : ℕ
+  pub quantity : Quantity
+  pub first : FirstFailure b path step quantity
+  pub taken : answer .steps ≡ pred path * b .schedule .total + step
+  pub named : answer .place ≡ path ∷ step ∷ quantityNumber quantity ∷ answer .steps ∷ []
+  pub no-doubles : answer .doubles ≡ noDoubles
+  pub no-counts : answer .counts ≡ countsOf observed 0 0
 
--- "The answer carries the steps taken, the failing one included": the N steps of each earlier path, and k of path p
-pub record Answered (b : Batch) (answer : Run) : Type 0 where
-  pub exactly : IsRefused answer ↔ SomeStepFails b
-  pub refused : (p k : ℕ) (q : Quantity) (steps : ℕ) → answer ≡ Refused p k q steps → FirstFailure b p k q × (steps ≡ pred p * b .schedule .total + k)
-  pub done : (steps low : ℕ) → answer ≡ Done steps low → (steps ≡ b .paths * b .schedule .total) × (low ≡ nonPositivePaths b (b .paths))
+-- ---- what the batch reports
 
--- ---- 3: "every observation is the plain walk's; the rest of the table stays as lent"
+-- "what the batch reports, or its refusal 23 to 25, is what document 01 makes of the plain walks":
+-- of the state that each path ends with, after N steps; and "steps taken = paths × N"
+unfoldable pub reportOf : Batch → Observed → Payoff → BatchAnswer
+unfolding stateAfter reported nonPositivePaths
+reportOf b observed payoff =
+    let steps = b .paths * b .schedule .total in
+    reported observed payoff (λ p. b .observe (stateOf b p (b .schedule .total))) (b .paths)
+    (refusedAnswer observed steps)
+    (pricedAnswer observed steps (b .paths) (nonPositivePaths b (b .paths)))
 
--- path p reaches the end of segment j: its steps up to it are finite, and so is each step of the paths before
+-- ---- the observation table
+
+-- "Whichever segment end a path, no path before it having stopped, reaches with finite spot, z and
+-- variance": path p and the end of segment j
 pub record Reaches (b : Batch) (p j : ℕ) : Type 0 where
   pub steps : (k : ℕ) → 1 ≤ k → k ≤ lastStep (b .schedule) j → FiniteAt b p k
   pub paths : FiniteBefore b p
@@ -91,19 +180,31 @@ entry b table p j = getD table (pred p * b .schedule .count + pred j) nan
 
 pub record Written (b : Batch) (lent after : List Float) : Type 0 where
   pub long : length after ≡ length lent
-  pub observed : (p j : ℕ) → OneTo (b .paths) p → OneTo (b .schedule .count) j → Reaches b p j → entry b after p j ≡ b .observe (stateOf b p (lastStep (b .schedule) j))
-  pub untouched : (p j : ℕ) → OneTo (b .paths) p → OneTo (b .schedule .count) j → (Reaches b p j → ⊥) → entry b after p j ≡ entry b lent p j
+  -- Excludes a core that writes no observation, and one that works the first step and repeats that
+  -- state.
+  pub observed :
+      (p j : ℕ) → OneTo (b .paths) p → OneTo (b .schedule .count) j → Reaches b p j
+      → entry b after p j ≡ b .observe (stateOf b p (lastStep (b .schedule) j))
+  -- "The rest of the observation table stays as lent." Excludes a core that writes at the stop.
+  pub untouched :
+      (p j : ℕ) → OneTo (b .paths) p → OneTo (b .schedule .count) j → (Reaches b p j → ⊥)
+      → entry b after p j ≡ entry b lent p j
 
 -- ---- the claim
 
-pub record Demand3 (b : Batch) (lent after : List Float) (answer : Run) : Type 0 where
-  -- 1. Each path starts at the parameters, and each of its steps is a step of the scheme. This excludes one path's state carried into the next, a segment's last step
-  -- run again in the next segment, and a core that works the first step and repeats that state: what 2 and 3 say of these states is then false of it.
-  pub starts : (p : ℕ) → stateOf b p 0 ≡ b .start
-  pub steps : (p k : ℕ) → OneTo (b .paths) p → OneTo (b .schedule .total) k → StepTaken b p k
-  -- 2. This excludes a core that refuses everything, one that reports non-finite before the first step or a step late, and an invented step total.
-  pub answered : Answered b answer
-  -- 3. This excludes a core that writes no observation, or writes one at or after the stop, or in another column, and a fixed price: prices are made of this table.
+-- of the batch b, what it observes and its payoff, the table as lent and after it, and its answer
+pub record BatchClaim
+    (b : Batch) (observed : Observed) (payoff : Payoff) (lent after : List Float)
+    (answer : BatchAnswer)
+    : Type 0 where
+  pub walks : PlainWalks b
+  -- Excludes a core that refuses everything, reporting non-finite though no step is, and one that
+  -- goes past a step that is not finite.
+  pub exactly : (answer .number ≡ 22) ↔ SomeStepFails b
+  -- Excludes a core that reports non-finite before the first step, one that names another path,
+  -- step or quantity, and one that invents the steps taken up to a stop.
+  pub names : answer .number ≡ 22 → NamesFirst b observed answer
+  -- Excludes a core with a fixed price, one that invents the step total, and one that refuses a
+  -- batch that goes through by any number, but for what its plain walks come to.
+  pub otherwise : (SomeStepFails b → ⊥) → answer ≡ reportOf b observed payoff
   pub written : Written b lent after
-  -- 4. Every state up to which each step is finite, the start included. This excludes a core that goes on from a factor that is not finite, or with a variance below c.
-  pub sound : (p k : ℕ) → OneTo (b .paths) p → k ≤ b .schedule .total → ((j : ℕ) → 1 ≤ j → j ≤ k → FiniteAt b p j) → Sound (b .kernel) (b .raw) (stateOf b p k)

@@ -1,3 +1,4 @@
 pub mod Run
 pub mod Moments
 pub mod Claim
+pub mod RunClaim

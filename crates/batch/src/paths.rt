@@ -4,7 +4,7 @@ ghost use Rattle.model.specs.Step.{kernelInUse, stateInUse};
 ghost use Rattle.model.specs.Admitted.{Admitted};
 ghost use Rattle.walks.specs.Batch.{batchOf};
 ghost use Rattle.batch.specs.Run.{Prepared, runAnswer, tableAfter};
-ghost use Rattle.batch.specs.Claim.{Demand3};
+ghost use Rattle.batch.specs.RunClaim.{RunClaim};
 use crate::Run;
 use groups::Together;
 use model::Finiteness;
@@ -35,7 +35,7 @@ pub fn run_paths(
     requires { ⌜ Admitted (kernelInUse k) p (stateInUse (k .n) start) ⌝ }
     ensures answer { λ r. ⌜ r ≡ runAnswer (batchOf k p start sched observed form mirrored paths (now (draws .entry))) ⌝ }
     ensures table { λ r. ⌜ now (seen .exit) ≡ tableAfter (batchOf k p start sched observed form mirrored paths (now (draws .entry))) (now (seen .entry)) ⌝ }
-    ensures claim { λ r. ⌜ Demand3 (batchOf k p start sched observed form mirrored paths (now (draws .entry))) (now (seen .entry)) (now (seen .exit)) r ⌝ }
+    ensures claim { λ r. ⌜ RunClaim (batchOf k p start sched observed form mirrored paths (now (draws .entry))) (now (seen .entry)) (now (seen .exit)) r ⌝ }
 {
     let total = sched.total;
     let count = sched.count;

@@ -14,8 +14,6 @@ use Rattle.refusal.proofs.Laws.{append, then, stops, earlier-passed}
 use Rattle.model.specs.declared.Kernel.{Kernel}
 use Rattle.doors.specs.declared.ModelDoor.{ModelDoor}
 use Rattle.model.specs.declared.RawParams.{RawParams}
-use Rattle.model.specs.Kernel.{kernelOf}
-use Rattle.model.specs.Parameters.{rawParams}
 use Rattle.model.specs.Step.{kernelInUse}
 use Rattle.doors.specs.Questions.{modelQuestions}
 use Rattle.doors.specs.Doors.{ModelReady, ModelPrepared}
@@ -29,10 +27,14 @@ use Rattle.batch.specs.Run.{Prepared, tableAfter}
 use Rattle.calls.specs.declared.FormDoor.{FormDoor}
 use Rattle.calls.specs.declared.Priced.{Priced}
 use Rattle.calls.specs.declared.Priced.the-variants as priced
-use Rattle.calls.specs.Batches.{batchQuestions, batchFor, pricedRun, numberIn, placeIn, stepsIn, Claimed}
+use Rattle.batch.specs.Claim.{BatchClaim}
+use Rattle.calls.specs.Batches.{batchQuestions, batchFor, pricedRun, answerOf}
 use Rattle.calls.specs.VixCall.{windowQuestions, formQuestions, FormPrepared}
-use Rattle.calls.specs.VixBatch.{VixBatchInputs, payoffFor, payoffQuestions, vixBatchQuestions, vixBatch, vixBatchCall, vixBatchTable, VixBatchClaim, throughSixteen}
-use Rattle.calls.proofs.Asked.{same-batch, same-sizes, call-refused, call-passed}
+use Rattle.calls.specs.VixBatch.{VixBatchInputs, kernelIn, paramsIn, payoffFor}
+use Rattle.calls.specs.VixBatch.{payoffQuestions, vixBatchQuestions, throughSixteen}
+use Rattle.calls.specs.VixBatch.{vixBatch, vixBatchCall, vixBatchTable, VixBatchClaim}
+use Rattle.calls.proofs.Asked.{same-batch, same-sizes, same-claim}
+use Rattle.calls.proofs.Asked.{call-refused, call-passed}
 use Rattle.calls.proofs.Sizes.{prepared}
 
 -- the outcome of 15 to 17, then of the payoff's
@@ -45,99 +47,150 @@ sizes i lent door = firstNo (batchQuestions (door .schedule) false (i .paths) (i
 
 -- what is asked of the form
 abbrev ofForm : VixBatchInputs → ℕ → List Question
-ofForm i size =
-    formQuestions (kernelOf (i .model .weights) (i .model .discounts)) (rawParams (i .model .params)) (i .window) size
+ofForm i size = formQuestions (kernelIn i) (paramsIn i) (i .window) size
 
-same-of : {A : Type 0} (f : Kernel → RawParams → A) {k k′ : Kernel} {p p′ : RawParams} → k ≡ k′ → p ≡ p′ → f k p ≡ f k′ p′
+-- all that is asked before 19
+abbrev earlier : VixBatchInputs → ℕ → List Question
+earlier i size = modelQuestions (i .model) ++ ofForm i size ++ payoffQuestions (i .payoff)
+
+same-of :
+    {A : Type 0} (f : Kernel → RawParams → A) {k k′ : Kernel} {p p′ : RawParams}
+    → k ≡ k′ → p ≡ p′ → f k p ≡ f k′ p′
 same-of f a b = rw (a, b)
 
 module _ (i : VixBatchInputs) (size : ℕ) (lent : List Float) where
   abbrev pub Ensured : Priced → List Float → Type 0
-  Ensured r after = (r ≡ vixBatchCall i size lent) × ((after ≡ vixBatchTable i size lent) × VixBatchClaim i size lent after (numberIn r) (placeIn r) (stepsIn r))
+  Ensured r after =
+      (r ≡ vixBatchCall i size lent)
+      × ((after ≡ vixBatchTable i size lent)
+      × VixBatchClaim i size lent after (answerOf VixSquared r))
 
   -- where the questions are passed
   abbrev answer : Priced
   answer = pricedRun VixSquared (vixBatch i) (payoffFor (i .payoff))
 
+  abbrev written : List Float
+  written = tableAfter (vixBatch i) lent
+
   abbrev claimed : List Float → Priced → Type 0
-  claimed after r = Claimed (vixBatch i) lent after (numberIn r) (placeIn r) (stepsIn r)
+  claimed after r =
+      BatchClaim (vixBatch i) VixSquared (payoffFor (i .payoff)) lent after (answerOf VixSquared r)
 
-  refused : (r : Refusal) → firstNo (vixBatchQuestions i size lent) ≡ Refused r → Ensured (priced.Refused r 0) lent
+  refused :
+      (r : Refusal) → firstNo (vixBatchQuestions i size lent) ≡ Refused r
+      → Ensured (priced.Refused r 0) lent
   unfolding vixBatchCall vixBatchTable VixBatchClaim
-  refused r e = call-refused answer (tableAfter (vixBatch i) lent) lent claimed r e
+  refused r e = call-refused answer written lent claimed r e
 
-  passed : firstNo (vixBatchQuestions i size lent) ≡ Passed → {r : Priced} {after : List Float} → r ≡ answer → after ≡ tableAfter (vixBatch i) lent → claimed after r → Ensured r after
+  passed :
+      firstNo (vixBatchQuestions i size lent) ≡ Passed → {r : Priced} {after : List Float}
+      → r ≡ answer → after ≡ written → claimed after r → Ensured r after
   unfolding vixBatchCall vixBatchTable VixBatchClaim
-  passed e answered table claim =
-      call-passed answer (tableAfter (vixBatch i) lent) lent claimed e answered table claim
+  passed e answered table claim = call-passed answer written lent claimed e answered table claim
 
   module _ (door : ModelDoor) (m : ModelPrepared (i .model) door) where
-    pub model-refused : (r : Refusal) → door .outcome ≡ Refused r → Ensured (priced.Refused r 0) lent
+    pub model-refused :
+        (r : Refusal) → door .outcome ≡ Refused r → Ensured (priced.Refused r 0) lent
     unfolding vixBatchQuestions
     model-refused r e =
         refused r
-        (stops (modelQuestions (i .model) ++ ofForm i size ++ payoffQuestions (i .payoff)) _ r
-        (stops (modelQuestions (i .model) ++ ofForm i size) _ r (stops (modelQuestions (i .model)) _ r (sym (m .outcome) ∙ e))))
+        (stops (earlier i size) _ r
+        (stops (modelQuestions (i .model) ++ ofForm i size) _ r
+        (stops (modelQuestions (i .model)) _ r (sym (m .outcome) ∙ e))))
 
     module _ (e : door .outcome ≡ Passed) where
       pub ready : ModelReady (i .model) door
       ready = m .ready e
 
       -- the workspace is as lent unless 16 is passed
-      pub kept : (before after : List Float) → KeptUnlessPassed (firstNo (windowQuestions (door .kernel .n) (i .window) size)) before after → KeptUnlessPassed (firstNo (throughSixteen i size)) before after
+      pub kept :
+          (before after : List Float)
+          → KeptUnlessPassed (firstNo (windowQuestions (door .kernel .n) (i .window) size)) before
+          after
+          → KeptUnlessPassed (firstNo (throughSixteen i size)) before after
       unfolding throughSixteen
       kept before after h =
           subst (λ (o : Outcome). KeptUnlessPassed o before after)
           (sym
           (then (modelQuestions (i .model)) _ (sym (m .outcome) ∙ e)
-          ∙ ap (λ (k : Kernel). firstNo (windowQuestions (k .n) (i .window) size)) (sym (ready .kernel .in-use))))
+          ∙ ap (λ (k : Kernel). firstNo (windowQuestions (k .n) (i .window) size))
+          (sym (ready .kernel .in-use))))
           h
 
-      module _ (form : FormDoor) (built : FormPrepared (kernelInUse (door .kernel)) (door .raw) (i .window) size form) where
-        second-is : firstNo (modelQuestions (i .model) ++ ofForm i size ++ payoffQuestions (i .payoff)) ≡ second i form
-        second-is =
-            append (modelQuestions (i .model) ++ ofForm i size) (payoffQuestions (i .payoff))
-            ∙ ap (λ (o : Outcome). orLater o (firstNo (payoffQuestions (i .payoff))))
-            (then (modelQuestions (i .model)) (ofForm i size) (sym (m .outcome) ∙ e)
-            ∙ sym (built .outcome ∙ same-of (λ k p. firstNo (formQuestions k p (i .window) size)) (ready .kernel .in-use) (ready .raw)))
+      module _
+          (form : FormDoor)
+          (built : FormPrepared (kernelInUse (door .kernel)) (door .raw) (i .window) size form)
+        where
+          second-is : firstNo (earlier i size) ≡ second i form
+          second-is =
+              append (modelQuestions (i .model) ++ ofForm i size) (payoffQuestions (i .payoff))
+              ∙ ap (λ (o : Outcome). orLater o (firstNo (payoffQuestions (i .payoff))))
+              (then (modelQuestions (i .model)) (ofForm i size) (sym (m .outcome) ∙ e)
+              ∙ sym
+              (built .outcome
+              ∙ same-of (λ k p. firstNo (formQuestions k p (i .window) size))
+              (ready .kernel .in-use) (ready .raw)))
 
-        pub second-refused : (r : Refusal) → second i form ≡ Refused r → Ensured (priced.Refused r 0) lent
-        unfolding vixBatchQuestions
-        second-refused r h = refused r (stops (modelQuestions (i .model) ++ ofForm i size ++ payoffQuestions (i .payoff)) _ r (second-is ∙ h))
-
-        module _ (h : second i form ≡ Passed) where
-          -- all questions come to what 19 to 21 come to
-          sizes-is : firstNo (vixBatchQuestions i size lent) ≡ sizes i lent door
+          pub second-refused :
+              (r : Refusal) → second i form ≡ Refused r → Ensured (priced.Refused r 0) lent
           unfolding vixBatchQuestions
-          sizes-is =
-              then (modelQuestions (i .model) ++ ofForm i size ++ payoffQuestions (i .payoff)) _ (second-is ∙ h)
-              ∙ ap firstNo (sym (same-sizes (i .model) door ready false (i .paths) (i .draws) lent))
+          second-refused r h = refused r (stops (earlier i size) _ r (second-is ∙ h))
 
-          pub sizes-refused : (r : Refusal) → sizes i lent door ≡ Refused r → Ensured (priced.Refused r 0) lent
-          sizes-refused r l = refused r (sizes-is ∙ l)
+          module _ (h : second i form ≡ Passed) where
+            -- all questions come to what 19 to 21 come to
+            sizes-is : firstNo (vixBatchQuestions i size lent) ≡ sizes i lent door
+            unfolding vixBatchQuestions
+            sizes-is =
+                then (earlier i size) _ (second-is ∙ h)
+                ∙ ap firstNo
+                (sym (same-sizes (i .model) door ready false (i .paths) (i .draws) lent))
 
-          -- the form that the code has is the form over the window
-          form-is : vixInUse (form .vix) ≡ vixOf (kernelInUse (door .kernel)) (door .raw) (value (i .window))
-          form-is = built .ready (earlier-passed (form .outcome) _ h)
+            pub sizes-refused :
+                (r : Refusal) → sizes i lent door ≡ Refused r → Ensured (priced.Refused r 0) lent
+            sizes-refused r l = refused r (sizes-is ∙ l)
 
-          factors-is : form .vix .n ≡ door .kernel .n
-          unfolding vixOf
-          factors-is = ap (λ (v : Vix). v .n) form-is
+            -- the form that the code has is the form over the window
+            form-is :
+                vixInUse (form .vix)
+                ≡ vixOf (kernelInUse (door .kernel)) (door .raw) (value (i .window))
+            form-is = built .ready (earlier-passed (form .outcome) _ h)
 
-          module _ (l : sizes i lent door ≡ Passed) where
-            pub handed : Prepared (door .kernel) (door .schedule) (form .vix) false (i .paths) (i .draws) lent
-            handed =
-                prepared (door .kernel) (door .schedule) (form .vix) false (i .paths) (i .draws) lent (ready .kernel .few) (omega (arith, factors-is)) (ready .schedule .laid) l
+            factors-is : form .vix .n ≡ door .kernel .n
+            unfolding vixOf
+            factors-is = ap (λ (v : Vix). v .n) form-is
 
-            abbrev run : Batch
-            run = batchOf (door .kernel) (door .raw) (door .start) (door .schedule) VixSquared (form .vix) false (i .paths) (i .draws)
+            module _ (l : sizes i lent door ≡ Passed) where
+              pub handed :
+                  Prepared (door .kernel) (door .schedule) (form .vix) false (i .paths) (i .draws)
+                  lent
+              handed =
+                  prepared (door .kernel) (door .schedule) (form .vix) false (i .paths) (i .draws)
+                  lent (ready .kernel .few) (omega (arith, factors-is)) (ready .schedule .laid) l
 
-            run-is : run ≡ vixBatch i
-            run-is =
-                same-batch (i .model) door ready false (i .paths) (i .draws) VixSquared (form .vix)
-                ∙ ap (λ (v : Vix). batchFor (i .model) false (i .paths) (i .draws) (observationOf VixSquared v)) (form-is ∙ same-of (λ k p. vixOf k p (value (i .window))) (ready .kernel .in-use) (ready .raw))
+              abbrev run : Batch
+              run =
+                  batchOf (door .kernel) (door .raw) (door .start) (door .schedule) VixSquared
+                  (form .vix) false (i .paths) (i .draws)
 
-            pub priced-through : {payoff : Payoff} → payoff ≡ payoffFor (i .payoff) → {r : Priced} {after : List Float} → (r ≡ pricedRun VixSquared run payoff) × ((after ≡ tableAfter run lent) × Claimed run lent after (numberIn r) (placeIn r) (stepsIn r)) → Ensured r after
-            priced-through pays {r} {after} made =
-                passed (sizes-is ∙ l) (made .0 ∙ rw (pays, run-is)) (made .1 .0 ∙ ap (λ (b : Batch). tableAfter b lent) run-is)
-                (subst (λ (b : Batch). Claimed b lent after (numberIn r) (placeIn r) (stepsIn r)) run-is (made .1 .1))
+              run-is : run ≡ vixBatch i
+              run-is =
+                  same-batch (i .model) door ready false (i .paths) (i .draws) VixSquared
+                  (form .vix)
+                  ∙ ap
+                  (λ (v : Vix).
+                  batchFor (i .model) false (i .paths) (i .draws) (observationOf VixSquared v))
+                  (form-is
+                  ∙ same-of (λ k p. vixOf k p (value (i .window))) (ready .kernel .in-use)
+                  (ready .raw))
+
+              pub priced-through :
+                  {payoff : Payoff} → payoff ≡ payoffFor (i .payoff)
+                  → {r : Priced} {after : List Float}
+                  → (r ≡ pricedRun VixSquared run payoff)
+                  × ((after ≡ tableAfter run lent)
+                  × BatchClaim run VixSquared payoff lent after (answerOf VixSquared r))
+                  → Ensured r after
+              priced-through pays {r} {after} made =
+                  passed (sizes-is ∙ l) (made .0 ∙ rw (pays, run-is))
+                  (made .1 .0 ∙ ap (λ (b : Batch). tableAfter b lent) run-is)
+                  (same-claim run-is pays (made .1 .1))

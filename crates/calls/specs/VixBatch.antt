@@ -9,6 +9,8 @@ use Rattle.decimal.specs.declared.Decimal.{Decimal}
 use Rattle.decimal.specs.Decimal.{value}
 use Rattle.refusal.specs.declared.Outcome.the-variants.{Passed}
 use Rattle.refusal.specs.Questions.{Question, firstNo, onceAsked, writtenOnceAsked}
+use Rattle.model.specs.declared.Kernel.{Kernel}
+use Rattle.model.specs.declared.RawParams.{RawParams}
 use Rattle.model.specs.Kernel.{kernelOf}
 use Rattle.model.specs.Parameters.{rawParams}
 use Rattle.model.specs.Schedule.{scheduleOf}
@@ -22,9 +24,11 @@ use Rattle.batch.specs.declared.Payoff.{Payoff}
 use Rattle.batch.specs.declared.Payoff.the-variants.{Future, Vanilla}
 use Rattle.walks.specs.Batch.{Batch}
 use Rattle.batch.specs.Run.{tableAfter}
+use Rattle.batch.specs.Claim.{BatchAnswer, BatchClaim}
 use Rattle.calls.specs.declared.Priced.{Priced}
 use Rattle.calls.specs.declared.VixPayoff.{VixPayoff}
-use Rattle.calls.specs.Batches.{strikeQuestions, batchQuestions, styleOf, batchFor, refusedAfter, pricedRun, Claimed}
+use Rattle.calls.specs.Batches.{strikeQuestions, batchQuestions, styleOf, batchFor}
+use Rattle.calls.specs.Batches.{refusedAfter, pricedRun}
 use Rattle.calls.specs.VixCall.{windowQuestions, formQuestions}
 
 -- What a VIX batch is given: a model, a window, a payoff, paths and draws.
@@ -47,22 +51,30 @@ payoffFor p = cond (p .future) Future (Vanilla (styleOf (p .put)) (value (p .str
 abbrev pub payoffQuestions : VixPayoff → List Question
 payoffQuestions p = cond (p .future) [] (strikeQuestions (p .strike))
 
+-- what the form is made of
+abbrev pub kernelIn : VixBatchInputs → Kernel
+kernelIn i = kernelOf (i .model .weights) (i .model .discounts)
+
+abbrev pub paramsIn : VixBatchInputs → RawParams
+paramsIn i = rawParams (i .model .params)
+
 -- the model's; 15, 1, 16 and 17; 18 and 1; 19 to 21, with a workspace of so many doubles
 unfoldable pub vixBatchQuestions : VixBatchInputs → ℕ → List Float → List Question
 unfolding modelQuestions formQuestions batchQuestions scheduleOf
 vixBatchQuestions i workspace lent =
     modelQuestions (i .model)
-    ++ formQuestions (kernelOf (i .model .weights) (i .model .discounts)) (rawParams (i .model .params)) (i .window) workspace
+    ++ formQuestions (kernelIn i) (paramsIn i) (i .window) workspace
     ++ payoffQuestions (i .payoff)
     ++ batchQuestions (scheduleOf (i .model .segments)) false (i .paths) (i .draws) lent
 
 -- the form over the window
 abbrev pub formOver : VixBatchInputs → Vix
-formOver i = vixOf (kernelOf (i .model .weights) (i .model .discounts)) (rawParams (i .model .params)) (value (i .window))
+formOver i = vixOf (kernelIn i) (paramsIn i) (value (i .window))
 
 -- "raw VIX squared for the VIX"
 abbrev pub vixBatch : VixBatchInputs → Batch
-vixBatch i = batchFor (i .model) false (i .paths) (i .draws) (λ s. rawSquared (formOver i) (s .factors))
+vixBatch i =
+    batchFor (i .model) false (i .paths) (i .draws) (λ s. rawSquared (formOver i) (s .factors))
 
 unfoldable pub vixBatchCall : VixBatchInputs → ℕ → List Float → Priced
 unfolding vixBatchQuestions vixOf batchFor pricedRun
@@ -73,14 +85,19 @@ vixBatchCall i workspace lent =
 unfoldable pub vixBatchTable : VixBatchInputs → ℕ → List Float → List Float
 unfolding vixBatchQuestions vixOf batchFor tableAfter
 vixBatchTable i workspace lent =
-    writtenOnceAsked (firstNo (vixBatchQuestions i workspace lent)) lent (tableAfter (vixBatch i) lent)
+    writtenOnceAsked (firstNo (vixBatchQuestions i workspace lent)) lent
+    (tableAfter (vixBatch i) lent)
 
--- "An admitted batch is one that passes every question asked of it before 22": demand 3 of each
-unfoldable pub VixBatchClaim : VixBatchInputs → ℕ → List Float → List Float → ℕ → List ℕ → ℕ → Type 0
-VixBatchClaim i workspace lent after number place steps =
-    firstNo (vixBatchQuestions i workspace lent) ≡ Passed → Claimed (vixBatch i) lent after number place steps
+-- "An admitted batch is one that passes every question asked of it before 22": the claim of each
+unfoldable pub VixBatchClaim :
+    VixBatchInputs → ℕ → List Float → List Float → BatchAnswer → Type 0
+VixBatchClaim i workspace lent after answer =
+    firstNo (vixBatchQuestions i workspace lent) ≡ Passed
+    → BatchClaim (vixBatch i) VixSquared (payoffFor (i .payoff)) lent after answer
 
 -- "Workspace contents are free once 16 passes": the questions up to it
 unfoldable pub throughSixteen : VixBatchInputs → ℕ → List Question
 unfolding modelQuestions windowQuestions
-throughSixteen i workspace = modelQuestions (i .model) ++ windowQuestions (length (i .model .weights)) (i .window) workspace
+throughSixteen i workspace =
+    modelQuestions (i .model)
+    ++ windowQuestions (length (i .model .weights)) (i .window) workspace

@@ -7,8 +7,10 @@ ghost use Rattle.model.specs.Admitted.{Admitted};
 ghost use Rattle.model.specs.Step.{kernelInUse, stateInUse};
 ghost use Rattle.walks.specs.Batch.{batchOf};
 ghost use Rattle.batch.specs.Run.{Prepared, tableAfter};
+ghost use Rattle.batch.specs.Claim.{BatchClaim};
 ghost use Rattle.batch.specs.Moments.{underlyingOf, estimatesOf, lastSeen};
-ghost use Rattle.calls.specs.Batches.{styleOf, estimated, pricedFrom, pricedAfter, pricedRun, numberIn, placeIn, stepsIn, Claimed};
+ghost use Rattle.calls.specs.Batches.{styleOf, estimated, pricedFrom, pricedAfter, pricedRun};
+ghost use Rattle.calls.specs.Batches.{answerOf};
 use crate::Priced;
 use batch::Payoff;
 use batch::Run;
@@ -52,7 +54,9 @@ fn estimated(
     steps: u64,
 ) -> Priced
     requires { ⌜ (1 ≤ count) × (length (now seen) ≡ paths * count) ⌝ }
-    ensures { λ r. ⌜ r ≡ estimated (estimatesOf payoff (λ p. underlyingOf rooted (lastSeen (now (seen .entry)) count p)) paths) paths «non_positive» steps ⌝ }
+    ensures { λ r. ⌜ r ≡ estimated
+        (estimatesOf payoff (λ p. underlyingOf rooted (lastSeen (now (seen .entry)) count p)) paths)
+        paths «non_positive» steps ⌝ }
 {
     let estimates = welford::estimates(payoff, rooted, seen, paths, count);
     let which = welford::first_not_finite(estimates);
@@ -81,7 +85,8 @@ fn priced_from(
     steps: u64,
 ) -> Priced
     requires { ⌜ (1 ≤ count) × (length (now seen) ≡ paths * count) ⌝ }
-    ensures { λ r. ⌜ r ≡ pricedFrom observed payoff (lastSeen (now (seen .entry)) count) paths «non_positive» steps ⌝ }
+    ensures { λ r. ⌜ r ≡ pricedFrom observed payoff (lastSeen (now (seen .entry)) count) paths
+        «non_positive» steps ⌝ }
 {
     match observed {
         Observed::Spot => estimated(payoff, false, seen, paths, count, non_positive, steps),
@@ -110,7 +115,8 @@ fn priced_after(
     count: usize,
 ) -> Priced
     requires { ⌜ (1 ≤ count) × (length (now seen) ≡ paths * count) ⌝ }
-    ensures { λ r. ⌜ r ≡ pricedAfter ran observed payoff (lastSeen (now (seen .entry)) count) paths ⌝ }
+    ensures { λ r. ⌜ r ≡ pricedAfter ran observed payoff (lastSeen (now (seen .entry)) count)
+        paths ⌝ }
 {
     match ran {
         Run::NonFinite {
@@ -150,11 +156,15 @@ pub fn run_batch(
 ) -> Priced
     requires { ⌜ Prepared kernel schedule form mirrored paths (now draws) (now seen) ⌝ }
     requires { ⌜ Admitted (kernelInUse kernel) raw (stateInUse (kernel .n) start) ⌝ }
-    ensures answer { λ r. ⌜ r ≡ pricedRun observed (batchOf kernel raw start schedule observed form mirrored paths (now (draws .entry))) payoff ⌝ }
-    ensures table { λ r. ⌜ now (seen .exit) ≡ tableAfter (batchOf kernel raw start schedule observed form mirrored paths (now (draws .entry))) (now (seen .entry)) ⌝ }
-    ensures claim { λ r. ⌜ Claimed
+    ensures answer { λ r. ⌜ r ≡ pricedRun observed
         (batchOf kernel raw start schedule observed form mirrored paths (now (draws .entry)))
-        (now (seen .entry)) (now (seen .exit)) (numberIn r) (placeIn r) (stepsIn r) ⌝ }
+        payoff ⌝ }
+    ensures table { λ r. ⌜ now (seen .exit) ≡ tableAfter
+        (batchOf kernel raw start schedule observed form mirrored paths (now (draws .entry)))
+        (now (seen .entry)) ⌝ }
+    ensures claim { λ r. ⌜ BatchClaim
+        (batchOf kernel raw start schedule observed form mirrored paths (now (draws .entry)))
+        observed payoff (now (seen .entry)) (now (seen .exit)) (answerOf observed r) ⌝ }
 {
     let ran = paths::run_paths(
         kernel,

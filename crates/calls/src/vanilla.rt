@@ -1,7 +1,7 @@
 // Pricing a vanilla batch, mirrored or not.
 ghost use mathlib.Core.Path.{_≡_};
 ghost use Rattle.doors.specs.Model.{given};
-ghost use Rattle.calls.specs.Batches.{numberIn, placeIn, stepsIn};
+ghost use Rattle.calls.specs.Batches.{answerOf};
 ghost use Rattle.calls.specs.Vanilla.{vanillaInputs, vanillaCall, vanillaTable, VanillaClaim};
 use crate::Priced;
 use crate::batch_doors;
@@ -26,14 +26,17 @@ pub fn price_vanilla(
     seen: &mut [f64],
 ) -> Priced
     ensures answer { λ r. ⌜ r ≡ vanillaCall
-        (vanillaInputs (given (now (weights .entry)) (now (discounts .entry)) params segments) put strike mirrored paths (now (draws .entry)))
+        (vanillaInputs (given (now (weights .entry)) (now (discounts .entry)) params segments)
+        put strike mirrored paths (now (draws .entry)))
         (now (seen .entry)) ⌝ }
     ensures table { λ r. ⌜ now (seen .exit) ≡ vanillaTable
-        (vanillaInputs (given (now (weights .entry)) (now (discounts .entry)) params segments) put strike mirrored paths (now (draws .entry)))
+        (vanillaInputs (given (now (weights .entry)) (now (discounts .entry)) params segments)
+        put strike mirrored paths (now (draws .entry)))
         (now (seen .entry)) ⌝ }
     ensures claim { λ r. ⌜ VanillaClaim
-        (vanillaInputs (given (now (weights .entry)) (now (discounts .entry)) params segments) put strike mirrored paths (now (draws .entry)))
-        (now (seen .entry)) (now (seen .exit)) (numberIn r) (placeIn r) (stepsIn r) ⌝ }
+        (vanillaInputs (given (now (weights .entry)) (now (discounts .entry)) params segments)
+        put strike mirrored paths (now (draws .entry)))
+        (now (seen .entry)) (now (seen .exit)) (answerOf Observed.Spot r) ⌝ }
 {
     let prepared = doors::prepare(weights, discounts, params, segments);
     let first = prepared.outcome;

@@ -3,8 +3,10 @@ ghost use mathlib.Core.Path.{_≡_};
 ghost use lib.ListN.{length};
 ghost use Rattle.refusal.specs.Questions.{firstNo, KeptUnlessPassed};
 ghost use Rattle.doors.specs.Model.{given};
-ghost use Rattle.calls.specs.Batches.{numberIn, placeIn, stepsIn};
-ghost use Rattle.calls.specs.VixBatch.{vixBatchInputs, payoffFor, payoffQuestions, vixBatchCall, vixBatchTable, VixBatchClaim, throughSixteen};
+ghost use Rattle.calls.specs.Batches.{answerOf};
+ghost use Rattle.calls.specs.VixBatch.{vixBatchInputs, payoffFor, payoffQuestions};
+ghost use Rattle.calls.specs.VixBatch.{vixBatchCall, vixBatchTable, VixBatchClaim};
+ghost use Rattle.calls.specs.VixBatch.{throughSixteen};
 use crate::Priced;
 use crate::VixPayoff;
 use crate::batch_doors;
@@ -49,16 +51,21 @@ pub fn price_vix(
     seen: &mut [f64],
 ) -> Priced
     ensures answer { λ r. ⌜ r ≡ vixBatchCall
-        (vixBatchInputs (given (now (weights .entry)) (now (discounts .entry)) params segments) window payoff paths (now (draws .entry)))
+        (vixBatchInputs (given (now (weights .entry)) (now (discounts .entry)) params segments)
+        window payoff paths (now (draws .entry)))
         (length (now (workspace .entry))) (now (seen .entry)) ⌝ }
     ensures table { λ r. ⌜ now (seen .exit) ≡ vixBatchTable
-        (vixBatchInputs (given (now (weights .entry)) (now (discounts .entry)) params segments) window payoff paths (now (draws .entry)))
+        (vixBatchInputs (given (now (weights .entry)) (now (discounts .entry)) params segments)
+        window payoff paths (now (draws .entry)))
         (length (now (workspace .entry))) (now (seen .entry)) ⌝ }
     ensures claim { λ r. ⌜ VixBatchClaim
-        (vixBatchInputs (given (now (weights .entry)) (now (discounts .entry)) params segments) window payoff paths (now (draws .entry)))
-        (length (now (workspace .entry))) (now (seen .entry)) (now (seen .exit)) (numberIn r) (placeIn r) (stepsIn r) ⌝ }
+        (vixBatchInputs (given (now (weights .entry)) (now (discounts .entry)) params segments)
+        window payoff paths (now (draws .entry)))
+        (length (now (workspace .entry))) (now (seen .entry)) (now (seen .exit))
+        (answerOf Observed.VixSquared r) ⌝ }
     ensures workspace { λ r. ⌜ KeptUnlessPassed (firstNo (throughSixteen
-        (vixBatchInputs (given (now (weights .entry)) (now (discounts .entry)) params segments) window payoff paths (now (draws .entry)))
+        (vixBatchInputs (given (now (weights .entry)) (now (discounts .entry)) params segments)
+        window payoff paths (now (draws .entry)))
         (length (now (workspace .entry))))) (now (workspace .entry)) (now (workspace .exit)) ⌝ }
 {
     let prepared = doors::prepare(weights, discounts, params, segments);

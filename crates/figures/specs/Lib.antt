@@ -1,1 +1,5 @@
+pub mod Given
 pub mod Twelve
+pub mod Admitted
+pub mod Claimed
+pub mod Excluded

@@ -4,19 +4,16 @@
 use mathlib.Core.Path.{_≡_, refl}
 use mathlib.Core.Bool.{false}
 use mathlib.Core.List.{List, [], _∷_}
-use Prim.Native.Nat.{ℕ, _/_, _%_, _^_}
+use Prim.Native.Nat.{ℕ}
 use lib.ListN.{getD, replicate}
 use lib.Ieee.{Float, nan, binary64, ofBits, round}
 use Rattle.numeric.specs.Root.{root}
 use Rattle.decimal.specs.declared.Decimal.{Decimal}
 use Rattle.decimal.specs.Decimal.{value, convert, isNegative, isPositive, scaleFits}
 use Rattle.refusal.specs.Questions.{firstNo, each}
-use Rattle.model.specs.declared.Params.{Params}
-use Rattle.model.specs.declared.Segments.{Segments}
 use Rattle.model.specs.Kernel.{inRange}
 use Rattle.doors.specs.Questions.{rangeQuestions, scaleQuestions}
 use Rattle.model.specs.Schedule.{stepsThrough}
-use Rattle.doors.specs.Model.{Model, given}
 use Rattle.model.specs.Trace.{Tables, tables, tableAfter}
 use Rattle.matrix.specs.Call.{exponentialCall, exponentialTable}
 use Rattle.refusal.specs.Refusal.{noPlace}
@@ -24,8 +21,10 @@ use Rattle.terminal.specs.Answers.{conversion, traced, vanillaAnswer}
 use Rattle.terminal.specs.Answers.{exponentialAnswer, evaluatedAnswer}
 use Rattle.calls.specs.declared.Factors.{Factors}
 use Rattle.calls.specs.Trace.{traceCall, traceTables}
-use Rattle.calls.specs.Vanilla.{vanillaInputs, vanillaCall}
+use Rattle.calls.specs.Vanilla.{vanillaCall}
 use Rattle.calls.specs.VixCall.{vixInputs, vixCall}
+use Rattle.figures.specs.Given.{bits, decimal, weights, discounts, params, calm, oneStep}
+use Rattle.figures.specs.Given.{modelOf, callAt100}
 
 -- an answer's number and place, its doubles and its whole numbers
 pub record Figure : Type 0 where
@@ -37,47 +36,6 @@ pub record Figure : Type 0 where
 abbrev pub figure : ℕ → List ℕ → List Float → List ℕ → Figure
 figure number place doubles wholes =
     record { number = number; place = place; doubles = doubles; wholes = wholes }
-
--- the double of these bits
-abbrev pub bits : ℕ → Float
-bits pattern = ofBits binary64 pattern
-
--- coefficient / 10 ^ scale
-abbrev pub decimal : ℕ → ℕ → Decimal
-decimal coefficient scale =
-    record {
-      low = coefficient % 2 ^ 64;
-      high = coefficient / 2 ^ 64;
-      scale = scale;
-      negative = false;
-    }
-
--- ---- "here n = 1, weight 1, discount 4, a = 1, b = 0, c = 4, lambda = eta = 1, spot 100,
--- factor 0, dt 0.25"
-abbrev pub weights : List Float
-weights = bits 0x3FF0000000000000 ∷ []
-
-abbrev pub discounts : List Float
-discounts = bits 0x4010000000000000 ∷ []
-
-abbrev pub params : ℕ → Params
-params a =
-    record {
-      a = decimal a 0;
-      b = decimal 0 0;
-      c = decimal 4 0;
-      lambda = decimal 1 0;
-      eta = decimal 1 0;
-      spot = decimal 100 0;
-      «factor_count» = 1;
-      factors = decimal 0 0 ∷ [];
-    }
-
-abbrev pub oneStep : Segments
-oneStep = record { count = 1; segments = record { dt = decimal 25 2; steps = 1 } ∷ [] }
-
-abbrev pub model : Model
-model = given weights discounts (params 1) oneStep
 
 -- ---- the calls
 
@@ -98,10 +56,11 @@ after table = getD table 1 nan
 -- a trace of one step: spot, factor, z and variance after it
 abbrev pub stepped : Float → Figure
 stepped draw =
+    let m = modelOf params oneStep in
     let draws = draw ∷ [] in
     let room = tables (lent 2) (lent 2) (lent 2) (lent 2) in
-    let a = traced (traceCall model draws room) in
-    let t = traceTables model draws room in
+    let a = traced (traceCall m draws room) in
+    let t = traceTables m draws room in
     figure (a .number) (a .place)
     (after (t .spots) ∷ after (t .factors) ∷ after (t .zs) ∷ after (t .variances) ∷ [])
     (a .steps ∷ [])
@@ -109,8 +68,7 @@ stepped draw =
 -- a call at 100 over two paths of one step
 abbrev pub priced : List Float → Figure
 priced draws =
-    let i = vanillaInputs model false (decimal 100 0) false 2 draws in
-    let a = vanillaAnswer (vanillaCall i (lent 2)) in
+    let a = vanillaAnswer (vanillaCall (callAt100 oneStep false draws) (lent 2)) in
     figure (a .number) (a .place)
     (a .price ∷ a .«price_error» ∷ a .«spot_mean» ∷ a .«spot_error» ∷ [])
     (a .paths ∷ a .«non_positive» ∷ a .steps ∷ [])
@@ -127,7 +85,7 @@ factorZero = record { count = 1; factors = decimal 0 0 ∷ [] }
 
 abbrev pub evaluated : Decimal → Figure
 evaluated window =
-    let i = vixInputs weights discounts (params 0) window factorZero in
+    let i = vixInputs weights discounts calm window factorZero in
     let a = evaluatedAnswer (vixCall i 80) in
     figure (a .number) (a .place) (a .squared ∷ a .index ∷ []) []
 

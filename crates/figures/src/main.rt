@@ -1,18 +1,18 @@
 // Runs the checked figures of document 01, and compares each with what it should be.
 use libc::STDOUT_FILENO;
 
-mod batch;
 mod exponential;
 mod given;
 mod report;
 mod scalar;
 mod trace;
+mod vanilla;
 mod vix;
 
 fn main() {
     let mut wrong = scalar::figures(0);
     wrong = trace::figures(wrong);
-    wrong = batch::figures(wrong);
+    wrong = vanilla::figures(wrong);
     wrong = exponential::figures(wrong);
     wrong = vix::figures(wrong);
     io::print_decimal(STDOUT_FILENO, wrong);

@@ -1,4 +1,5 @@
--- What the questions at the door leave of a model: doubles of a known size, and a start that is read off them. Definitions only.
+-- What the questions at the door leave of a model: doubles of a known size, and a start that is
+-- read off them. Definitions only.
 use mathlib.Core.Path.{_≡_}
 use mathlib.Core.Bool.{true, false}
 use Prim.Native.Nat.{ℕ, _≤_, _<_}
@@ -12,7 +13,8 @@ use Rattle.model.specs.declared.State.{State}
 use Rattle.model.specs.Kernel.{inRange}
 use Rattle.model.specs.Step.{read}
 
--- a Decimal as converted: a double, and at most 2^96 in size, since a Decimal's coefficient has 96 bits
+-- a Decimal as converted: a double, and at most 2^96 in size, since a Decimal's coefficient has 96
+-- bits
 pub record Converted (x : Float) : Type 0 where
   pub double : fits binary64 x ≡ true
   pub small : le (magnitude x) (fin false 1 (pos 96)) ≡ true
@@ -28,15 +30,16 @@ pub record ParamsReady (n : ℕ) (p : RawParams) (start : State) : Type 0 where
   pub spot : Converted (start .spot)
   pub factor : (i : ℕ) → i < n → Converted (getD (start .factors) i nan)
 
--- 2 and 4: at most 10 weights, each from 2^-90 to 2^90; the parameters as above; and "It starts at the parameters", with z and variance
--- read off the factors
+-- 2 and 4: at most 10 weights, each from 2^-90 to 2^90; the parameters as above; and "It starts at
+-- the parameters", with z and variance read off the factors
 pub record Admitted (k : Kernel) (p : RawParams) (start : State) : Type 0 where
   pub few : k .n ≤ 10
   pub weight : (i : ℕ) → i < k .n → inRange (getD (k .weights) i nan) ≡ true
   pub params : ParamsReady (k .n) p start
   pub start-read : start ≡ read k p (start .spot) (start .factors)
 
--- "states stay finite and the variance at least c": what is claimed of every state from which a walk goes on
+-- "finite spot, z, variance and factors, and variance at least c as converted": what is claimed of
+-- every state of a plain walk but the one it stops with
 pub record Sound (k : Kernel) (p : RawParams) (s : State) : Type 0 where
   pub spot : finite (s .spot) ≡ true
   pub z : finite (s .z) ≡ true

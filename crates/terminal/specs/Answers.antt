@@ -1,12 +1,16 @@
--- "If an answer is an enum, a definition lists this paper's number and values for each of its cases": an answer as it crosses the edge.
--- Its number is 0 where the call is answered; a place has four numbers, 0 where it has none; a refusal's values are zeros.
+-- "If an answer is an enum, a definition lists this paper's number and values for each of its
+-- cases": an answer as it crosses the edge. Its number is 0 where the call is answered; a place has
+-- four numbers, 0 where it has none; a refusal's values are zeros.
+use mathlib.Core.List.{[], _∷_}
 use Prim.Native.Nat.{ℕ}
 use Rattle.decimal.specs.declared.Converted.{Converted}
 use Rattle.decimal.specs.declared.Converted.the-variants.{Value, ScaleTooLarge}
 use Rattle.numeric.specs.Double.{plusZero}
 use Rattle.refusal.specs.declared.Refusal.{Refusal}
-use Rattle.refusal.specs.declared.Refusal.the-variants.{Plain, InTable, AtSegment, NonFinite, OnPath, Estimate}
+use Rattle.refusal.specs.declared.Refusal.the-variants.{Plain, InTable, AtSegment}
+use Rattle.refusal.specs.declared.Refusal.the-variants.{NonFinite, OnPath, Estimate}
 use Rattle.refusal.specs.Refusal.{numberOf, placeOf, noPlace}
+use Rattle.batch.specs.Claim.{BatchAnswer}
 use Rattle.matrix.specs.declared.Answer.{Answer}
 use Rattle.matrix.specs.declared.Answer.the-variants as exponentiation
 use Rattle.terminal.specs.declared.Conversion.{Conversion}
@@ -36,13 +40,15 @@ abbrev pub conversion : Converted → Conversion
 conversion (Value v) = record { number = 0; place = noPlace; value = v }
 conversion ScaleTooLarge = record { number = 1; place = noPlace; value = plusZero }
 
--- tracing: the steps taken; at a refusal its number and place, and the steps taken, the failing one of 22 included
+-- tracing: the steps taken; at a refusal its number and place, and the steps taken, the failing one
+-- of 22 included
 abbrev pub traced : Trace → TraceAnswer
 traced (trace.Done steps) = record { number = 0; place = noPlace; steps = steps }
-traced (trace.Refused refusal) = record { number = numberOf refusal; place = placeOf refusal; steps = stepsTaken refusal }
+traced (trace.Refused refusal) =
+    record { number = numberOf refusal; place = placeOf refusal; steps = stepsTaken refusal }
 
--- pricing a vanilla batch: price and mean terminal spot, each with its standard error, paths, non-positive paths and the steps taken; at a
--- refusal only these are kept
+-- pricing a vanilla batch: price and mean terminal spot, each with its standard error, paths,
+-- non-positive paths and the steps taken; at a refusal only these are kept
 abbrev pub vanillaAnswer : Priced → VanillaAnswer
 vanillaAnswer (priced.Price estimates paths nonPositive steps) =
     record {
@@ -69,9 +75,21 @@ vanillaAnswer (priced.Refused refusal steps) =
       steps = steps;
     }
 
+-- what the batch's claim speaks of, as read off it
+abbrev pub readVanilla : VanillaAnswer → BatchAnswer
+readVanilla a =
+    record {
+      number = a .number;
+      place = a .place;
+      doubles = a .price ∷ a .«price_error» ∷ a .«spot_mean» ∷ a .«spot_error» ∷ [];
+      counts = a .paths ∷ a .«non_positive» ∷ [];
+      steps = a .steps;
+    }
+
 -- exponentiating a matrix: the number of squarings; at a refusal its number and place
 abbrev pub exponentialAnswer : Answer → ExponentialAnswer
-exponentialAnswer (exponentiation.Done squarings) = record { number = 0; place = noPlace; squarings = squarings }
+exponentialAnswer (exponentiation.Done squarings) =
+    record { number = 0; place = noPlace; squarings = squarings }
 exponentialAnswer (exponentiation.Refused refusal) =
     record { number = numberOf refusal; place = placeOf refusal; squarings = 0 }
 
@@ -80,9 +98,15 @@ abbrev pub evaluatedAnswer : Evaluation → VixAnswer
 evaluatedAnswer (evaluation.Done squared index) =
     record { number = 0; place = noPlace; squared = squared; index = index }
 evaluatedAnswer (evaluation.Refused refusal) =
-    record { number = numberOf refusal; place = placeOf refusal; squared = plusZero; index = plusZero }
+    record {
+      number = numberOf refusal;
+      place = placeOf refusal;
+      squared = plusZero;
+      index = plusZero;
+    }
 
--- pricing a VIX batch: payoff and index, each with its standard error, paths and the steps taken; at a refusal only these are kept
+-- pricing a VIX batch: payoff and index, each with its standard error, paths and the steps taken;
+-- at a refusal only these are kept
 abbrev pub vixBatchAnswer : Priced → VixBatchAnswer
 vixBatchAnswer (priced.Price estimates paths nonPositive steps) =
     record {
@@ -105,4 +129,15 @@ vixBatchAnswer (priced.Refused refusal steps) =
       «index_error» = plusZero;
       paths = 0;
       steps = steps;
+    }
+
+-- what the batch's claim speaks of, as read off it
+abbrev pub readVixBatch : VixBatchAnswer → BatchAnswer
+readVixBatch a =
+    record {
+      number = a .number;
+      place = a .place;
+      doubles = a .payoff ∷ a .«payoff_error» ∷ a .index ∷ a .«index_error» ∷ [];
+      counts = a .paths ∷ [];
+      steps = a .steps;
     }

@@ -21,9 +21,12 @@ ghost use Rattle.doors.specs.Model.{given};
 ghost use Rattle.model.specs.Trace.{tables};
 ghost use Rattle.matrix.specs.Call.{sizeQuestions, exponentialCall, exponentialTable};
 ghost use Rattle.refusal.specs.Questions.{firstNo, KeptUnlessPassed};
-ghost use Rattle.calls.specs.VixBatch.{vixBatchInputs, vixBatchCall, vixBatchTable, VixBatchClaim, throughSixteen};
+ghost use Rattle.calls.specs.VixBatch.{vixBatchInputs, vixBatchCall, vixBatchTable, VixBatchClaim};
+ghost use Rattle.calls.specs.VixBatch.{throughSixteen};
 ghost use Rattle.calls.specs.VixCall.{vixInputs, vixCall, throughWorkspace};
-ghost use Rattle.terminal.specs.Answers.{conversion, traced, exponentialAnswer, evaluatedAnswer, vanillaAnswer, vixBatchAnswer};
+ghost use Rattle.terminal.specs.Answers.{conversion, traced, exponentialAnswer};
+ghost use Rattle.terminal.specs.Answers.{evaluatedAnswer, vanillaAnswer, readVanilla};
+ghost use Rattle.terminal.specs.Answers.{vixBatchAnswer, readVixBatch};
 ghost use Rattle.calls.specs.Trace.{traceCall, traceTables};
 ghost use Rattle.calls.specs.Vanilla.{vanillaInputs, vanillaCall, vanillaTable, VanillaClaim};
 
@@ -194,14 +197,17 @@ pub extern "C" fn qrh_vanilla(
     seen: &mut [f64],
 ) -> VanillaAnswer
     ensures answer { λ r. ⌜ r ≡ vanillaAnswer (vanillaCall
-        (vanillaInputs (given (now (weights .entry)) (now (discounts .entry)) params segments) put strike false paths (now (draws .entry)))
+        (vanillaInputs (given (now (weights .entry)) (now (discounts .entry)) params segments)
+        put strike false paths (now (draws .entry)))
         (now (seen .entry))) ⌝ }
     ensures table { λ r. ⌜ now (seen .exit) ≡ vanillaTable
-        (vanillaInputs (given (now (weights .entry)) (now (discounts .entry)) params segments) put strike false paths (now (draws .entry)))
+        (vanillaInputs (given (now (weights .entry)) (now (discounts .entry)) params segments)
+        put strike false paths (now (draws .entry)))
         (now (seen .entry)) ⌝ }
     ensures claim { λ r. ⌜ VanillaClaim
-        (vanillaInputs (given (now (weights .entry)) (now (discounts .entry)) params segments) put strike false paths (now (draws .entry)))
-        (now (seen .entry)) (now (seen .exit)) (r .number) (r .place) (r .steps) ⌝ }
+        (vanillaInputs (given (now (weights .entry)) (now (discounts .entry)) params segments)
+        put strike false paths (now (draws .entry)))
+        (now (seen .entry)) (now (seen .exit)) (readVanilla r) ⌝ }
 {
     vanilla_answer(calls::vanilla::price_vanilla(
         weights,
@@ -231,14 +237,17 @@ pub extern "C" fn qrh_mirrored(
     seen: &mut [f64],
 ) -> VanillaAnswer
     ensures answer { λ r. ⌜ r ≡ vanillaAnswer (vanillaCall
-        (vanillaInputs (given (now (weights .entry)) (now (discounts .entry)) params segments) put strike true paths (now (draws .entry)))
+        (vanillaInputs (given (now (weights .entry)) (now (discounts .entry)) params segments)
+        put strike true paths (now (draws .entry)))
         (now (seen .entry))) ⌝ }
     ensures table { λ r. ⌜ now (seen .exit) ≡ vanillaTable
-        (vanillaInputs (given (now (weights .entry)) (now (discounts .entry)) params segments) put strike true paths (now (draws .entry)))
+        (vanillaInputs (given (now (weights .entry)) (now (discounts .entry)) params segments)
+        put strike true paths (now (draws .entry)))
         (now (seen .entry)) ⌝ }
     ensures claim { λ r. ⌜ VanillaClaim
-        (vanillaInputs (given (now (weights .entry)) (now (discounts .entry)) params segments) put strike true paths (now (draws .entry)))
-        (now (seen .entry)) (now (seen .exit)) (r .number) (r .place) (r .steps) ⌝ }
+        (vanillaInputs (given (now (weights .entry)) (now (discounts .entry)) params segments)
+        put strike true paths (now (draws .entry)))
+        (now (seen .entry)) (now (seen .exit)) (readVanilla r) ⌝ }
 {
     vanilla_answer(calls::vanilla::price_vanilla(
         weights,
@@ -419,16 +428,21 @@ pub extern "C" fn qrh_vix_batch(
     seen: &mut [f64],
 ) -> VixBatchAnswer
     ensures answer { λ r. ⌜ r ≡ vixBatchAnswer (vixBatchCall
-        (vixBatchInputs (given (now (weights .entry)) (now (discounts .entry)) params segments) window payoff paths (now (draws .entry)))
+        (vixBatchInputs (given (now (weights .entry)) (now (discounts .entry)) params segments)
+        window payoff paths (now (draws .entry)))
         (length (now (workspace .entry))) (now (seen .entry))) ⌝ }
     ensures table { λ r. ⌜ now (seen .exit) ≡ vixBatchTable
-        (vixBatchInputs (given (now (weights .entry)) (now (discounts .entry)) params segments) window payoff paths (now (draws .entry)))
+        (vixBatchInputs (given (now (weights .entry)) (now (discounts .entry)) params segments)
+        window payoff paths (now (draws .entry)))
         (length (now (workspace .entry))) (now (seen .entry)) ⌝ }
     ensures claim { λ r. ⌜ VixBatchClaim
-        (vixBatchInputs (given (now (weights .entry)) (now (discounts .entry)) params segments) window payoff paths (now (draws .entry)))
-        (length (now (workspace .entry))) (now (seen .entry)) (now (seen .exit)) (r .number) (r .place) (r .steps) ⌝ }
+        (vixBatchInputs (given (now (weights .entry)) (now (discounts .entry)) params segments)
+        window payoff paths (now (draws .entry)))
+        (length (now (workspace .entry))) (now (seen .entry)) (now (seen .exit))
+        (readVixBatch r) ⌝ }
     ensures workspace { λ r. ⌜ KeptUnlessPassed (firstNo (throughSixteen
-        (vixBatchInputs (given (now (weights .entry)) (now (discounts .entry)) params segments) window payoff paths (now (draws .entry)))
+        (vixBatchInputs (given (now (weights .entry)) (now (discounts .entry)) params segments)
+        window payoff paths (now (draws .entry)))
         (length (now (workspace .entry))))) (now (workspace .entry)) (now (workspace .exit)) ⌝ }
 {
     vix_batch_answer(calls::vix_batch::price_vix(

@@ -19,7 +19,13 @@ same-length c = search needs
 returns : tie.Need-returns
 returns c =
     let call = c .before .before .before .price-vanilla in
-    (c .vanilla-answer .ensures ∙ ap vanillaAnswer (call .ensures .0), (call .ensures .1 .0, vanilla-told (VanillaClaim _ _ _) (call .result) (c .vanilla-answer .ensures) (call .ensures .1 .1)))
+    let answer = c .vanilla-answer .ensures in (
+      answer ∙ ap vanillaAnswer (call .ensures .0),
+      (
+        call .ensures .1 .0,
+        vanilla-told (VanillaClaim _ _ _) (call .result) answer (call .ensures .1 .1),
+      ),
+    )
 
 pub qrh-vanilla-spec : {M : Type 1} → statement M
 qrh-vanilla-spec =

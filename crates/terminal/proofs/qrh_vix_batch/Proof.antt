@@ -22,7 +22,14 @@ same-length-2 c = search needs
 returns : tie.Need-returns
 returns c =
     let call = c .before .before .before .before .before .price-vix in
-    (c .vix-batch-answer .ensures ∙ ap vixBatchAnswer (call .ensures .0), (call .ensures .1 .0, (vix-told (VixBatchClaim _ _ _ _) (call .result) (c .vix-batch-answer .ensures) (call .ensures .1 .1 .0), call .ensures .1 .1 .1)))
+    let answer = c .vix-batch-answer .ensures in
+    let told = call .ensures .1 .1 in (
+      answer ∙ ap vixBatchAnswer (call .ensures .0),
+      (
+        call .ensures .1 .0,
+        (vix-told (VixBatchClaim _ _ _ _) (call .result) answer (told .0), told .1),
+      ),
+    )
 
 pub qrh-vix-batch-spec : {M : Type 1} → statement M
 qrh-vix-batch-spec =

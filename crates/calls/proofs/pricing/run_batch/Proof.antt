@@ -1,5 +1,4 @@
 -- `calls::pricing::run_batch` meets its contract. Assumes nothing.
-use mathlib.Core.Path.{refl}
 use borrow.Author.Needs.{needs}
 use Rattle.model.proofs.Containment.{laid-in-use}
 use Rattle.calls.proofs.LastColumn.{priced-run}
@@ -19,7 +18,9 @@ returns : tie.Need-returns
 returns c =
     let run = c .before .before .before .before in
     let start = run .before .before .before .before in
-    priced-run (run .run-paths .ensures .0) (run .run-paths .ensures .1 .0) (run .run-paths .ensures .1 .1) _ _ (laid-in-use _ (start .pre .0 .laid)) _ refl (c .priced-after .ensures)
+    let ran = run .run-paths .ensures in
+    priced-run (ran .0) (ran .1 .0) (ran .1 .1) _ _ (laid-in-use _ (start .pre .0 .laid))
+    (c .priced-after .ensures)
 
 pub run-batch-spec : {M : Type 1} → statement M
 run-batch-spec = tie.close (tie.spec run-paths-requires priced-after-requires same-length returns)

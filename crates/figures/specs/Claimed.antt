@@ -1,0 +1,122 @@
+-- The batch's claim holds of a computed answer and table of each kind of batch. Assumes nothing.
+use mathlib.Core.Path.{_≡_, refl}
+use mathlib.Core.Bool.{true}
+use mathlib.Core.List.{[], _∷_}
+use Prim.Native.Nat.{ℕ, zero, suc, _*_, _<_, _≤_}
+use native.Mathlib.Omega.{arith}
+use lib.ListN.{length, getD}
+use lib.Ieee.{nan, fits, le, round, ofBits}
+use Rattle.numeric.specs.Double.{plusZero, magnitude}
+use Rattle.decimal.specs.declared.Decimal.{Decimal}
+use Rattle.decimal.specs.Decimal.{value}
+use Rattle.model.specs.Admitted.{Converted, Admitted}
+use Rattle.model.specs.Laid.{Laid}
+use Rattle.model.specs.Kernel.{inRange}
+use Rattle.model.specs.Parameters.{rawParams, startOf}
+use Rattle.model.specs.Schedule.{lastStep, scheduleOf}
+use Rattle.walks.specs.declared.Observed.{Observed}
+use Rattle.walks.specs.declared.Observed.the-variants.{Spot, VixSquared}
+use Rattle.batch.specs.declared.Payoff.{Payoff}
+use Rattle.walks.specs.Batch.{Batch}
+use Rattle.batch.specs.Run.{tableAfter}
+use Rattle.batch.specs.Claim.{BatchClaim}
+use Rattle.batch.proofs.Claim.{run-claim}
+use Rattle.calls.specs.Batches.{batchFor, pricedRun, answerOf}
+use Rattle.calls.specs.Vanilla.{vanillaBatch, vanillaPayoff}
+use Rattle.calls.specs.VixBatch.{vixBatch, vixBatchCall, payoffFor}
+use Rattle.calls.specs.VixCall.{vixCall}
+use Rattle.calls.proofs.Claims.{batch-claim}
+use Rattle.figures.specs.Given.{decimal, kernel, withA, params, calm, oneStep}
+use Rattle.figures.specs.Admitted.{nine, mirrored, vix, lent, priceOfNine, pricedAt}
+
+-- ---- what the questions leave of the model
+
+rising :
+    (f : ℕ → ℕ) → f 0 < f 1 → (i j : ℕ) → i < j → j ≤ 1 → f i < f j
+rising f h zero zero l m = absurd (omega (arith, l))
+rising f h zero (suc zero) l m = h
+rising f h zero (suc (suc j)) l m = absurd (omega (arith, m))
+rising f h (suc i) j l m = absurd (omega (arith, l, m))
+
+one-laid : Laid (scheduleOf oneStep)
+unfolding scheduleOf
+one-laid =
+    record {
+      some = omega arith;
+      few = omega arith;
+      short = omega arith;
+      rises = rising (lastStep (scheduleOf oneStep)) (omega arith);
+      ends = refl;
+    }
+
+at-first : (P : ℕ → Type 0) → P 0 → (i : ℕ) → i < 1 → P i
+at-first P h zero l = h
+at-first P h (suc i) l = absurd (omega (arith, l))
+
+-- with an a as converted
+admitted :
+    (a : Decimal) → magnitude (value a) ≡ value a → Converted (value a)
+    → Admitted kernel (rawParams (withA a)) (startOf kernel (withA a))
+unfolding startOf inRange value round ofBits le fits
+admitted a not-negative converted =
+    record {
+      few = omega arith;
+      weight = at-first (λ i. inRange (getD (kernel .weights) i nan) ≡ true) refl;
+      params =
+          record {
+            a-not-negative = not-negative;
+            a = converted;
+            b = record { double = refl; small = refl };
+            c = record { double = refl; small = refl };
+            lambda = record { double = refl; small = refl };
+            eta = record { double = refl; small = refl };
+            spot = record { double = refl; small = refl };
+            factor =
+                at-first (λ i. Converted (getD (startOf kernel (withA a) .factors) i nan))
+                (record { double = refl; small = refl });
+          };
+      start-read = refl;
+    }
+
+params-admitted : Admitted kernel (rawParams params) (startOf kernel params)
+unfolding value round ofBits le fits
+params-admitted = admitted (decimal 1 0) refl (record { double = refl; small = refl })
+
+calm-admitted : Admitted kernel (rawParams calm) (startOf kernel calm)
+unfolding value round ofBits le fits
+calm-admitted = admitted (decimal 0 0) refl (record { double = refl; small = refl })
+
+-- ---- the claim, of what the definitions answer
+
+pub claimed :
+    (b : Batch) (o : Observed) (payoff : Payoff) → Laid (b .schedule)
+    → Admitted (b .kernel) (b .raw) (b .start) → length lent ≡ b .paths * b .schedule .count
+    → BatchClaim b o payoff lent (tableAfter b lent) (answerOf o (pricedRun o b payoff))
+claimed b o payoff laid admitted rows =
+    batch-claim b o payoff laid (run-claim b laid admitted lent _ _ rows refl refl)
+
+-- "price 25, error 25, spot mean 75, error 75, one non-positive, 2 steps"
+pub nine-claimed :
+    BatchClaim (vanillaBatch nine) Spot (vanillaPayoff nine) lent
+    (value (decimal 150 0) ∷ plusZero ∷ []) priceOfNine
+unfolding batchFor tableAfter pricedRun value round ofBits
+nine-claimed = claimed (vanillaBatch nine) Spot (vanillaPayoff nine) one-laid params-admitted refl
+
+-- spots 150 and 50
+pub mirrored-claimed :
+    BatchClaim (vanillaBatch mirrored) Spot (vanillaPayoff mirrored) lent
+    (value (decimal 150 0) ∷ value (decimal 50 0) ∷ [])
+    (pricedAt (value (decimal 25 0)) (value (decimal 25 0)) (value (decimal 100 0))
+    (value (decimal 50 0)) (2 ∷ 0 ∷ []))
+unfolding batchFor tableAfter pricedRun value round ofBits
+mirrored-claimed =
+    claimed (vanillaBatch mirrored) Spot (vanillaPayoff mirrored) one-laid params-admitted refl
+
+-- "VIX squared 40000, index 200", on both paths
+pub vix-claimed :
+    BatchClaim (vixBatch vix) VixSquared (payoffFor (vix .payoff)) lent
+    (value (decimal 40000 0) ∷ value (decimal 40000 0) ∷ [])
+    (pricedAt (value (decimal 200 0)) plusZero (value (decimal 200 0)) plusZero (2 ∷ []))
+unfolding vixBatchCall vixCall tableAfter value round ofBits
+vix-claimed =
+    claimed (vixBatch vix) VixSquared (payoffFor (vix .payoff)) one-laid calm-admitted refl

@@ -1,0 +1,157 @@
+-- The wrong cores that the batch's claim excludes: those that term (c) of document 01 lists, and
+-- the others that its fields name (crates/batch/specs/Claim.antt). What each answers to a small
+-- admitted batch, or leaves in its table, does not meet the claim. Each proof looks at one field of
+-- the claim, the one that says so.
+use mathlib.Core.Path.{_≡_, refl, sym, ap, _∙_}
+use mathlib.Core.Bool.{true, false}
+use mathlib.Core.List.{List, [], _∷_}
+use Prim.Native.Nat.{ℕ}
+use native.Mathlib.Omega.{arith}
+use lib.ListN.{getD}
+use lib.Ieee.{Float, nan, lt, round, ofBits}
+use Rattle.numeric.specs.Double.{plusZero}
+use Rattle.decimal.specs.Decimal.{value}
+use Rattle.model.specs.Walk.{stateAfter}
+use Rattle.batch.specs.Claim.{BatchAnswer, OneTo, stateOf, entry}
+use Rattle.calls.specs.Batches.{batchFor}
+use Rattle.calls.specs.Vanilla.{VanillaInputs, vanillaBatch, VanillaClaim}
+use Rattle.figures.specs.Admitted.{nine, ten, level, twice, lent, vanillaAsked}
+use Rattle.figures.specs.Admitted.{nine-admitted, nine-passes, nine-report, nine-reaches}
+use Rattle.figures.specs.Admitted.{level-admitted, level-passes, level-report}
+use Rattle.figures.specs.Admitted.{ten-admitted, ten-stops, ten-refused, ten-ends}
+use Rattle.figures.specs.Admitted.{twice-admitted, twice-reaches}
+
+-- the claim of a batch, of its table and its answer, does not hold
+abbrev Excluded : VanillaInputs → List Float → BatchAnswer → Type 0
+Excluded i after answer = VanillaClaim i lent after answer → ⊥
+
+first-of-one : OneTo 1 1
+first-of-one = record { from = omega arith; upto = omega arith }
+
+first-of-two : OneTo 2 1
+first-of-two = record { from = omega arith; upto = omega arith }
+
+second-of-two : OneTo 2 2
+second-of-two = record { from = omega arith; upto = omega arith }
+
+-- one double below another is not the same
+apart : {x y : Float} → lt x y ≡ true → lt y y ≡ false → x ≡ y → ⊥
+apart below same e = let z : _≡_ {A = ℕ} 0 1 = cc in omega arith
+
+-- ---- a core that refuses everything
+
+-- as non-finite, though each step is finite: by `exactly`
+pub refuses-everything :
+    (after : List Float) (answer : BatchAnswer) → answer .number ≡ 22 → Excluded nine after answer
+unfolding VanillaClaim vanillaAsked
+refuses-everything after answer is-22 claim = nine-passes (claim nine-admitted .exactly .0 is-22)
+
+-- by any number: by `otherwise`
+pub refuses-by-another-number :
+    (after : List Float) (answer : BatchAnswer) → (answer .number ≡ 0 → ⊥)
+    → Excluded nine after answer
+unfolding VanillaClaim vanillaAsked
+refuses-by-another-number after answer refuses claim =
+    refuses
+    (ap (λ (a : BatchAnswer). a .number)
+    (claim nine-admitted .otherwise nine-passes ∙ nine-report))
+
+-- so too as 24, at a path that there is not, with the steps that were taken
+pub refuses-as-24 :
+    (after doubles : List Float) (counts : List ℕ)
+    → Excluded nine after
+    (record {
+      number = 24;
+      place = 99 ∷ 7 ∷ 7 ∷ 7 ∷ [];
+      doubles = doubles;
+      counts = counts;
+      steps = 2;
+    })
+refuses-as-24 after doubles counts =
+    refuses-by-another-number after _ (λ is-0. omega (arith, is-0))
+
+-- ---- a core that reports non-finite before the first step: by `names`
+pub before-the-first-step :
+    (after : List Float) (answer : BatchAnswer) → answer .number ≡ 22 → answer .steps ≡ 0
+    → Excluded ten after answer
+unfolding VanillaClaim vanillaAsked
+before-the-first-step after answer is-22 none claim =
+    let named = claim ten-admitted .names is-22 in
+    omega (arith, none, named .taken, named .first .is-step .from)
+
+-- ---- a core that works the first step and repeats that state: by `written .observed`
+pub repeats-the-first-state :
+    (after : List Float) (answer : BatchAnswer)
+    → entry (vanillaBatch twice) after 1 1 ≡ stateOf (vanillaBatch twice) 1 1 .spot
+    → Excluded twice after answer
+unfolding VanillaClaim vanillaAsked batchFor stateAfter value round ofBits lt
+repeats-the-first-state after answer repeated claim =
+    let observed =
+    claim twice-admitted .written .observed 1 1 first-of-two first-of-one twice-reaches in
+    apart refl refl (sym repeated ∙ observed)
+
+-- ---- a core that writes no observation: by `written .observed`
+pub writes-no-observation : (answer : BatchAnswer) → Excluded nine lent answer
+unfolding VanillaClaim vanillaAsked batchFor stateAfter value round ofBits lt
+writes-no-observation answer claim =
+    apart refl refl
+    (claim nine-admitted .written .observed 1 1 first-of-two first-of-one nine-reaches)
+
+-- ---- a core with a fixed price, whatever it is: by `otherwise`
+pub fixed-price :
+    (price : Float) (after after′ : List Float) (answer answer′ : BatchAnswer)
+    → getD (answer .doubles) 0 nan ≡ price → getD (answer′ .doubles) 0 nan ≡ price
+    → VanillaClaim nine lent after answer → Excluded level after′ answer′
+unfolding VanillaClaim vanillaAsked value round ofBits lt
+fixed-price price after after′ answer answer′ fixed fixed′ claim claim′ =
+    let first : BatchAnswer → Float = λ a. getD (a .doubles) 0 nan in
+    let is-25 = ap first (claim nine-admitted .otherwise nine-passes ∙ nine-report) in
+    let is-50 = ap first (claim′ level-admitted .otherwise level-passes ∙ level-report) in
+    apart refl refl (sym is-25 ∙ fixed ∙ sym fixed′ ∙ is-50)
+
+-- ---- a core that invents the step total
+
+-- of a batch that goes through: by `otherwise`
+pub invents-the-total :
+    (after : List Float) (answer : BatchAnswer) → (answer .steps ≡ 2 → ⊥)
+    → Excluded nine after answer
+unfolding VanillaClaim vanillaAsked
+invents-the-total after answer other claim =
+    other
+    (ap (λ (a : BatchAnswer). a .steps)
+    (claim nine-admitted .otherwise nine-passes ∙ nine-report))
+
+-- and of one that stops: by `names`
+pub invents-the-total-at-a-stop :
+    (after : List Float) (answer : BatchAnswer) → answer .number ≡ 22 → (answer .steps ≡ 2 → ⊥)
+    → Excluded ten after answer
+unfolding VanillaClaim vanillaAsked batchFor
+invents-the-total-at-a-stop after answer is-22 other claim =
+    let named = claim ten-admitted .names is-22 in
+    let stop = ten-stops (named .path) (named .step) (named .quantity) (named .first) in
+    other (named .taken ∙ rw (stop .path, stop .step))
+
+-- ---- a core that goes past a step that is not finite: by `exactly`
+pub goes-past-the-stop :
+    (after : List Float) (answer : BatchAnswer) → (answer .number ≡ 22 → ⊥)
+    → Excluded ten after answer
+unfolding VanillaClaim vanillaAsked
+goes-past-the-stop after answer other claim = other (claim ten-admitted .exactly .1 ten-refused)
+
+-- ---- a core that names another path, step or quantity: by `names`
+pub names-another-place :
+    (after : List Float) (answer : BatchAnswer) → answer .number ≡ 22
+    → (answer .place ≡ 2 ∷ 1 ∷ 1 ∷ answer .steps ∷ [] → ⊥) → Excluded ten after answer
+unfolding VanillaClaim vanillaAsked batchFor
+names-another-place after answer is-22 other claim =
+    let named = claim ten-admitted .names is-22 in
+    let stop = ten-stops (named .path) (named .step) (named .quantity) (named .first) in
+    other (named .named ∙ rw (stop .path, stop .step, stop .quantity))
+
+-- ---- a core that writes at the stop: by `written .untouched`
+pub writes-at-the-stop :
+    (after : List Float) (answer : BatchAnswer)
+    → (entry (vanillaBatch ten) after 2 1 ≡ plusZero → ⊥) → Excluded ten after answer
+unfolding VanillaClaim vanillaAsked batchFor
+writes-at-the-stop after answer other claim =
+    other (claim ten-admitted .written .untouched 2 1 second-of-two first-of-one ten-ends)
