@@ -12,7 +12,7 @@ use lib.Seq.{getD-take, length-take-le}
 use Rattle.model.proofs.First.{split}
 use Rattle.walks.specs.Batch.{Batch, observation}
 use Rattle.batch.specs.Run.{runStop}
-use Rattle.groups.specs.Group.{FourWalked, Copied}
+use Rattle.groups.specs.Inner.Group.{FourWalked, Copied}
 use Rattle.walks.proofs.Cells.{row-below}
 use Rattle.batch.proofs.Stops.{run-goes}
 use Rattle.batch.proofs.Turns.{Outer}

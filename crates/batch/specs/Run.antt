@@ -1,5 +1,5 @@
--- A run of a batch: where it stops, what it answers, and what it leaves in the table of observations.
--- Definitions only.
+-- A run of a batch: where it stops, what it answers, and what it leaves in the table of
+-- observations. Definitions only.
 use mathlib.Core.Path.{_≡_}
 use mathlib.Core.Bool.{Bool, true}
 use mathlib.Core.List.{List}
@@ -39,7 +39,8 @@ runStop b n = firstSome (λ p. onPath p (stopWithin (walkOf b p) (b .schedule .t
 abbrev pub answerAt : Batch → Option RunStop → Run
 answerAt b none = Done (b .paths * b .schedule .total) (nonPositivePaths b (b .paths))
 answerAt b (some s) =
-    NonFinite (s .path) (s .stop .step) (s .stop .quantity) (pred (s .path) * b .schedule .total + s .stop .step)
+    NonFinite (s .path) (s .stop .step) (s .stop .quantity)
+    (pred (s .path) * b .schedule .total + s .stop .step)
 
 unfoldable pub runAnswer : Batch → Run
 unfolding runStop nonPositivePaths
@@ -53,21 +54,25 @@ runAnswer b = answerAt b (runStop b (b .paths))
 unfoldable pub entryAfter : Batch → ℕ → ℕ → Float → Float
 unfolding runStop stopWithin observation
 entryAfter b p j lent =
-    unlessStopped (orElse (runStop b (pred p)) (onPath p (stopWithin (walkOf b p) (lastStep (b .schedule) j))))
-    (observation b p j)
-    lent
+    unlessStopped
+    (orElse (runStop b (pred p))
+    (onPath p (stopWithin (walkOf b p) (lastStep (b .schedule) j))))
+    (observation b p j) lent
 
 -- "row p, one column a segment"
 unfoldable pub tableAfter : Batch → List Float → List Float
 unfolding tabulate entryAfter
 tableAfter b lent =
-    tabulate (length lent) (λ x. entryAfter b (suc (x / b .schedule .count)) (suc (x % b .schedule .count)) (getD lent x nan))
+    tabulate (length lent)
+    (λ x.
+    entryAfter b (suc (x / b .schedule .count)) (suc (x % b .schedule .count)) (getD lent x nan))
 
 -- ---- what the code is handed
 
--- 19 to 21, and what the doors prepare: at most ten factors, a schedule laid end to end, and a form in
--- no more factors than there are
-pub record Prepared (k : Kernel) (sched : Schedule) (vix : Vix) (mirrored : Bool) (paths : ℕ) (draws seen : List Float) : Type 0 where
+-- 19 to 21, and what the doors prepare: at most ten factors, a schedule laid end to end, and a form
+-- in no more factors than there are
+pub record Prepared (k : Kernel) (sched : Schedule) (vix : Vix) (mirrored : Bool) (paths : ℕ)
+    (draws seen : List Float) : Type 0 where
   pub few : k .n ≤ 10
   pub form : vix .n ≤ k .n
   pub laid : Laid sched

@@ -4,7 +4,8 @@ use refusal::Quantity;
 pub mod paths;
 pub mod welford;
 
-// How a run of paths ended. Paths and steps count from 1; `steps` is how many were taken, a failing one included.
+// How a run of paths ended. Paths and steps count from 1; `steps` is how many were taken, a failing
+// one included.
 pub enum Run {
     Done {
         steps: u64,

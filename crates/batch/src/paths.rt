@@ -16,9 +16,9 @@ use model::scheme;
 use vix::Vix;
 use walks::Observed;
 
-// Every path in turn, step by step, up to the first step that is not finite. `seen` has a row a path
-// and a column a segment. Four paths at a time are walked side by side where that is sure to give what
-// the plain loop gives; a group of which that cannot be said goes through the plain loop.
+// Every path in turn, step by step, up to the first step that is not finite. `seen` has a row a
+// path and a column a segment. Four paths at a time are walked side by side where that is sure to
+// give what the plain loop gives; a group of which that cannot be said goes through the plain loop.
 pub fn run_paths(
     k: Kernel,
     p: RawParams,
@@ -33,9 +33,14 @@ pub fn run_paths(
 ) -> Run
     requires { ⌜ Prepared k sched form mirrored paths (now draws) (now seen) ⌝ }
     requires { ⌜ Admitted (kernelInUse k) p (stateInUse (k .n) start) ⌝ }
-    ensures answer { λ r. ⌜ r ≡ runAnswer (batchOf k p start sched observed form mirrored paths (now (draws .entry))) ⌝ }
-    ensures table { λ r. ⌜ now (seen .exit) ≡ tableAfter (batchOf k p start sched observed form mirrored paths (now (draws .entry))) (now (seen .entry)) ⌝ }
-    ensures claim { λ r. ⌜ RunClaim (batchOf k p start sched observed form mirrored paths (now (draws .entry))) (now (seen .entry)) (now (seen .exit)) r ⌝ }
+    ensures answer { λ r. ⌜ r
+        ≡ runAnswer (batchOf k p start sched observed form mirrored paths (now (draws .entry))) ⌝ }
+    ensures table { λ r. ⌜ now (seen .exit) ≡ tableAfter
+        (batchOf k p start sched observed form mirrored paths (now (draws .entry)))
+        (now (seen .entry)) ⌝ }
+    ensures claim { λ r. ⌜ RunClaim
+        (batchOf k p start sched observed form mirrored paths (now (draws .entry)))
+        (now (seen .entry)) (now (seen .exit)) r ⌝ }
 {
     let total = sched.total;
     let count = sched.count;

@@ -15,14 +15,14 @@ use Rattle.model.specs.Step.{step, finiteness, stateInUse}
 use Rattle.numeric.proofs.Tables.{take-is-tabulate}
 use Rattle.model.specs.Schedule.{lastStep, dtAt, sqrtDtAt}
 use Rattle.model.specs.Laid.{Laid}
-use Rattle.lanes.specs.Lanes.{laneOf, AllAt, Spread, FiniteLane}
+use Rattle.lanes.specs.Inner.Lanes.{laneOf, AllAt, Spread, FiniteLane}
 use Rattle.model.specs.Walk.{stateAfter}
 use Rattle.model.proofs.First.{split}
 use Rattle.model.proofs.FiniteStates.{parts-finite}
 use Rattle.walks.proofs.Absorbing.{never-stopped}
 use Rattle.model.proofs.Containment.{Reached, reached-none, reached-open, reached-shut, reached-next, reached-on}
 use Rattle.walks.specs.Batch.{Batch, walkOf, nonPositiveBy, nonPositivePaths, observation}
-use Rattle.groups.specs.Group.{flagged, Fell, FourWalked}
+use Rattle.groups.specs.Inner.Group.{flagged, Fell, FourWalked}
 
 -- the cells of the four rows up to `segment`
 abbrev pub RowsFilled : Batch → ℕ → ℕ → List Float → Type 0

@@ -11,7 +11,7 @@ use Rattle.numeric.proofs.Tables.{getD-tabulate, length-tabulate, take-is-tabul
 use Rattle.vix.specs.declared.Vix.{Vix}
 use Rattle.vix.specs.Form.{pairsBefore, linearValue, rowValue, valueThrough, rawSquared, vixInUse}
 use Rattle.vix.proofs.Pairs.{squared-in-use}
-use Rattle.lanes.specs.Lanes.{laneFactors}
+use Rattle.lanes.specs.Inner.Lanes.{laneFactors}
 
 -- factor i of a lane
 lane-factor : (n i l : ℕ) (factors : List Float) → i < n → getD (laneFactors n factors l) i nan ≡ getD factors (4 * i + l) nan

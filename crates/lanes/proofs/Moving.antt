@@ -18,7 +18,7 @@ use Rattle.model.specs.declared.Rates.{Rates}
 use Rattle.model.specs.declared.RawParams.{RawParams}
 use Rattle.model.specs.declared.State.{State}
 use Rattle.model.specs.Rates.{RatesOf}
-use Rattle.lanes.specs.Lanes.{laneFactors, laneOf, RowMoved, LanesMoved, LanesStepped}
+use Rattle.lanes.specs.Inner.Lanes.{laneFactors, laneOf, RowMoved, LanesMoved, LanesStepped}
 use Rattle.model.specs.Step.{weightedSum, varianceAt, read, moved, step, kernelInUse}
 
 -- a sum over the first k places depends on these alone

@@ -5,8 +5,8 @@ ghost use lib.ListN.{length, getD};
 ghost use lib.Ieee.{nan};
 ghost use Rattle.numeric.specs.Double.{times};
 ghost use Rattle.vix.specs.Form.{pairsBefore, rawSquared, vixInUse};
-ghost use Rattle.lanes.specs.Lanes.{laneFactors};
-ghost use Rattle.lanes.specs.Form.{LinearValues, RowAdded};
+ghost use Rattle.lanes.specs.Inner.Lanes.{laneFactors};
+ghost use Rattle.lanes.specs.Inner.Form.{LinearValues, RowAdded};
 use crate::rows;
 use vix::Vix;
 

@@ -4,7 +4,7 @@ ghost use mathlib.Core.Path.{_≡_};
 ghost use mathlib.Core.Bool.{true};
 ghost use Prim.Native.Nat.{ℕ, _≤_, _<_};
 ghost use lib.ListN.{length};
-ghost use Rattle.lanes.specs.Lanes.{AllAt, Spread, FiniteLane};
+ghost use Rattle.lanes.specs.Inner.Lanes.{AllAt, Spread, FiniteLane};
 use model::State;
 
 pub mod form;

@@ -4,7 +4,7 @@ ghost use Prim.Native.Nat.{ℕ, _+_, _≤_, _<_};
 ghost use lib.ListN.{length, getD};
 ghost use lib.Ieee.{nan};
 ghost use Rattle.numeric.specs.Double.{plus, times};
-ghost use Rattle.lanes.specs.Lanes.{RowMoved};
+ghost use Rattle.lanes.specs.Inner.Lanes.{RowMoved};
 
 // The four factors at a place become (factor + forcing) / divisor.
 pub(crate) fn move_row(forcing: [f64; 4], divisor: f64, at: usize, factors: &mut [f64])

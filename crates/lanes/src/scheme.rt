@@ -3,7 +3,7 @@ ghost use mathlib.Core.Path.{_≡_};
 ghost use Prim.Native.Nat.{_≤_};
 ghost use lib.ListN.{length};
 ghost use Rattle.model.specs.Rates.{RatesOf};
-ghost use Rattle.lanes.specs.Lanes.{LanesMoved, LanesStepped, StepTried};
+ghost use Rattle.lanes.specs.Inner.Lanes.{LanesMoved, LanesStepped, StepTried};
 use crate::Lanes;
 use crate::Tried;
 use crate::roots;

@@ -1,5 +1,5 @@
-// What the layers above need of a double beyond its operators: the square root, and Rust's is_finite,
-// abs and max.
+// What the layers above need of a double beyond its operators: the square root, and Rust's
+// is_finite, abs and max.
 ghost use mathlib.Core.Path.{_≡_};
 ghost use mathlib.Core.Bool.{true};
 ghost use lib.Ieee.{binary64};

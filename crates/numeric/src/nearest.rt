@@ -13,8 +13,8 @@ pub struct Wide {
     pub low: u64,
 }
 
-// Whether s is that number: m * 2^52 and the square of s are then no more than s apart. With
-// s = a * 2^27 + b the square is a * a * 2^54 + a * b * 2^28 + b * b, and it is taken off m * 2^52 from
+// Whether s is that number: m * 2^52 and the square of s are then no more than s apart. With s = a
+// * 2^27 + b the square is a * a * 2^54 + a * b * 2^28 + b * b, and it is taken off m * 2^52 from
 // the top. Each difference is shifted up, so that it is below its bound where s is the number, and
 // wraps around to far above it where the square is too large. y is m * 2^52 - s * s + s.
 pub fn is_nearest(m: u64, s: u64) -> bool

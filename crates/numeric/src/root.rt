@@ -1,6 +1,6 @@
-// The square root, correctly rounded, with no square root in hardware. A Newton iteration in floating
-// point gives a guess, of which nothing is proved. Exact integer arithmetic confirms it, or the root is
-// searched for (nearest.rt).
+// The square root, correctly rounded, with no square root in hardware. A Newton iteration in
+// floating point gives a guess, of which nothing is proved. Exact integer arithmetic confirms it,
+// or the root is searched for (nearest.rt).
 ghost use mathlib.Core.Path.{_≡_};
 ghost use Prim.Native.Nat.{_*_, _^_, _<_, _≤_};
 ghost use mathlib.Core.Bool.{false};
@@ -47,8 +47,8 @@ pub fn negative(bits: u64) -> f64
 
 // The root of digits * 2^e, counted in units of the smallest double: `digits` and the exponent are
 // those of the number times the square of such a unit. With an even exponent, 52 + 2k, the root is
-// that of m * 2^52, k digits further up. `guess` may be any double. Where it has the root's digits and
-// exponent field it is the root.
+// that of m * 2^52, k digits further up. `guess` may be any double. Where it has the root's digits
+// and exponent field it is the root.
 fn scaled(digits: u64, e: u64, guess: f64) -> f64
     requires { ⌜ Digits digits ⌝ }
     requires { ⌜ (1022 ≤ e) × (e ≤ 3119) ⌝ }
@@ -79,11 +79,12 @@ fn placed(s: u64, k: u64) -> f64
     f64::from_bits(k * HIDDEN + s)
 }
 
-// About √x, for the x of a bit pattern. 1 / √x comes from half of the pattern, as in the fast inverse
-// square root, and two steps of Newton's method, whose constants are moved a little so that the error
-// is even to both sides. Then s, which is about √x, and one step of third order. There `upper` is the
-// upper half of s's digits (Veltkamp), so that x - s * s is exact. At a normal number the guess is wrong
-// in about one case of seven hundred. Nothing depends on that but the time.
+// About √x, for the x of a bit pattern. 1 / √x comes from half of the pattern, as in the fast
+// inverse square root, and two steps of Newton's method, whose constants are moved a little so that
+// the error is even to both sides. Then s, which is about √x, and one step of third order. There
+// `upper` is the upper half of s's digits (Veltkamp), so that x - s * s is exact. At a normal
+// number the guess is wrong in about one case of seven hundred. Nothing depends on that but the
+// time.
 fn guess(bits: u64) -> f64
     requires { ⌜ bits < 2047 * 2 ^ 52 ⌝ }
 {

@@ -32,11 +32,17 @@ pub record Batch : Type 0 where
 -- the plain walk of path p
 abbrev pub walkOf : Batch → ℕ → Walk
 walkOf b p =
-    record { kernel = b .kernel; raw = b .raw; start = b .start; schedule = b .schedule; draw = b .draw p }
+    record {
+      kernel = b .kernel;
+      raw = b .raw;
+      start = b .start;
+      schedule = b .schedule;
+      draw = b .draw p;
+    }
 
--- where the draw of step k of path p stands among those lent, from 0. "Path p uses draws
--- (p - 1) × N + 1 to p × N"; in a mirrored batch "path 2i - 1 uses draws (i - 1) × N + 1 to i × N and
--- path 2i the same ones"
+-- where the draw of step k of path p stands among those lent, from 0. "Path p uses draws (p - 1) ×
+-- N + 1 to p × N"; in a mirrored batch "path 2i - 1 uses draws (i - 1) × N + 1 to i × N and path 2i
+-- the same ones"
 abbrev pub drawPlace : Bool → ℕ → ℕ → ℕ → ℕ
 drawPlace true total p k = pred p / 2 * total + pred k
 drawPlace false total p k = pred p * total + pred k
@@ -80,7 +86,8 @@ observation b p j = b .observe (stateAfter (walkOf b p) (lastStep (b .schedule) 
 
 -- The batch of a prepared kernel, parameters and schedule, in arrays of which the first places are
 -- in use.
-abbrev pub batchOf : Kernel → RawParams → State → Schedule → Observed → Vix → Bool → ℕ → List Float → Batch
+abbrev pub batchOf : Kernel → RawParams → State → Schedule → Observed → Vix → Bool → ℕ → List Float
+    → Batch
 batchOf k p start sched observed vix mirrored paths draws =
     record {
       kernel = kernelInUse k;

@@ -26,8 +26,8 @@ fn path_draw(draws: &[f64], first: usize, total: usize, at: usize) -> f64
     draws::take_draw(&draws[first..end], at)
 }
 
-// The draw of step `at` + 1 of path `path` + 1. In a mirrored batch two paths share their draws, and
-// the second has them negated.
+// The draw of step `at` + 1 of path `path` + 1. In a mirrored batch two paths share their draws,
+// and the second has them negated.
 pub fn draw_at(mirrored: bool, draws: &[f64], total: usize, path: usize, at: usize) -> f64
     requires { ⌜ at < total ⌝ }
     requires { ⌜ drawPlace mirrored total (suc path) (suc total) ≤ length (now draws) ⌝ }

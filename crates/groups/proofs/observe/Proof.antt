@@ -8,7 +8,7 @@ use lib.Ieee.{Float}
 use Rattle.vix.specs.declared.Vix.{Vix}
 use Rattle.vix.specs.Form.{rawSquared, vixInUse}
 use Rattle.vix.proofs.Pairs.{squared-in-use}
-use Rattle.lanes.specs.Lanes.{laneFactors}
+use Rattle.lanes.specs.Inner.Lanes.{laneFactors}
 use Rattle.lanes.proofs.Forms.{lane-take}
 use Rattle.groups.proofs.observe.Statement.{statement}
 use Rattle.groups.proofs.observe.Tie as tie

@@ -7,7 +7,7 @@ use native.Mathlib.Numerals.{add-one}
 use native.Mathlib.Omega.{arith}
 use borrow.Author.Needs.{needs}
 use lib.ListN.{getD}
-use Rattle.groups.specs.Group.{flagged}
+use Rattle.groups.specs.Inner.Group.{flagged}
 use Rattle.walks.proofs.Flags.{count-up, count-left, one-most}
 use Rattle.groups.proofs.set_flags.Statement.{statement}
 use Rattle.groups.proofs.set_flags.Tie as tie

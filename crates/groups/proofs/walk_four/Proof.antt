@@ -13,7 +13,7 @@ use Rattle.model.specs.declared.RawParams.{RawParams}
 use Rattle.model.specs.declared.Schedule.{Schedule}
 use Rattle.model.specs.declared.State.{State}
 use Rattle.model.specs.Rates.{RatesOf}
-use Rattle.lanes.specs.Lanes.{laneOf}
+use Rattle.lanes.specs.Inner.Lanes.{laneOf}
 use Rattle.model.specs.Laid.{Laid}
 use Rattle.model.specs.Schedule.{lastStep, dtAt, sqrtDtAt, scheduleInUse}
 use Rattle.model.proofs.Laws.{rates-own}
@@ -24,7 +24,7 @@ use Rattle.vix.specs.declared.Vix.{Vix}
 use Rattle.vix.specs.Form.{vixInUse}
 use Rattle.walks.specs.declared.Observed.{Observed}
 use Rattle.walks.specs.Batch.{Batch, drawOf, observationOf}
-use Rattle.groups.specs.Group.{FourWalked}
+use Rattle.groups.specs.Inner.Group.{FourWalked}
 use Rattle.walks.proofs.Handed.{step-in-use}
 use Rattle.lanes.proofs.Four.{four-same}
 use Rattle.groups.proofs.Beside.{Beside, beside-first, beside-on, beside-write, beside-done, lane-at-start}

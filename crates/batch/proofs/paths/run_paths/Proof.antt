@@ -26,7 +26,7 @@ use Rattle.walks.proofs.Flags.{raised, left-low, count-up, count-left}
 use Rattle.walks.proofs.Handed.{finite-in-use, draws-within, observed-in-use, step-in-use}
 use Rattle.batch.proofs.Turns.{Inner, Outer, Small, small, turn-first, next-state, turn-on, turn-write, path-first, path-next, run-ends, entries-end, run-done, entries-done}
 use Rattle.groups.specs.declared.Together.{Together}
-use Rattle.groups.specs.Group.{Walks, FourWalked}
+use Rattle.groups.specs.Inner.Group.{Walks, FourWalked}
 use Rattle.batch.proofs.Groups.{SmallGroup, small-group, path-four}
 use Rattle.batch.proofs.Whole.{whole}
 use Rattle.batch.proofs.Claim.{with-claim}

@@ -8,7 +8,7 @@ use lib.Ieee.{nan}
 use Rattle.vix.specs.declared.Vix.{Vix}
 use Rattle.vix.specs.Form.{rowValue}
 use Rattle.vix.proofs.Pairs.{row-most}
-use Rattle.lanes.specs.Lanes.{laneFactors}
+use Rattle.lanes.specs.Inner.Lanes.{laneFactors}
 use Rattle.lanes.proofs.Forms.{pair-more}
 use Rattle.lanes.proofs.form.add_pairs.Statement.{statement}
 use Rattle.lanes.proofs.form.add_pairs.Tie as tie

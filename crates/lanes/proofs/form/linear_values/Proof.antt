@@ -7,7 +7,7 @@ use lib.ListN.{getD}
 use lib.Ieee.{nan}
 use Rattle.vix.specs.declared.Vix.{Vix}
 use Rattle.vix.specs.Form.{linearValue}
-use Rattle.lanes.specs.Lanes.{laneFactors}
+use Rattle.lanes.specs.Inner.Lanes.{laneFactors}
 use Rattle.lanes.proofs.Four.{four-same}
 use Rattle.lanes.proofs.Forms.{linear-more}
 use Rattle.lanes.proofs.form.linear_values.Statement.{statement}

@@ -9,7 +9,7 @@ use lib.Ieee.{Float, nan}
 use Rattle.numeric.specs.Double.{times}
 use Rattle.vix.specs.Form.{pairsBefore, valueThrough, rawSquared, vixInUse}
 use Rattle.vix.proofs.Pairs.{row-most}
-use Rattle.lanes.specs.Lanes.{laneFactors}
+use Rattle.lanes.specs.Inner.Lanes.{laneFactors}
 use Rattle.lanes.proofs.Four.{four-of}
 use Rattle.lanes.proofs.Forms.{squared-is}
 use Rattle.lanes.proofs.form.squared.Statement.{statement}

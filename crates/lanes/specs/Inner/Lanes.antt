@@ -42,32 +42,41 @@ pub record Spread (n : ℕ) (values after : List Float) : Type 0 where
   pub new : (i l : ℕ) → i < n → l < 4 → getD after (4 * i + l) nan ≡ getD values i nan
 
 -- the four factors from place `at` on become (factor + forcing) / divisor, and the others stay
-pub record RowMoved (forcing : List Float) (divisor : Float) (at : ℕ) (before after : List Float) : Type 0 where
+pub record RowMoved (forcing : List Float) (divisor : Float) (at : ℕ) (before after : List Float)
+    : Type 0 where
   pub long : length after ≡ length before
-  pub new : (l : ℕ) → l < 4 → getD after (at + l) nan ≡ over (plus (getD before (at + l) nan) (getD forcing l nan)) divisor
+  pub new : (l : ℕ) → l < 4 → getD after (at + l) nan
+      ≡ over (plus (getD before (at + l) nan) (getD forcing l nan)) divisor
   pub kept : (x : ℕ) → (x < at) ⊎ (at + 4 ≤ x) → getD after x nan ≡ getD before x nan
 
 -- every factor is moved, and z has the sum of weight × factor of each lane
 pub record LanesMoved (n : ℕ) (forcing divisors weights before after z : List Float) : Type 0 where
   pub long : length after ≡ length before
-  pub new : (i l : ℕ) → i < n → l < 4 → getD after (4 * i + l) nan ≡ over (plus (getD before (4 * i + l) nan) (getD forcing l nan)) (getD divisors i nan)
+  pub new : (i l : ℕ) → i < n → l < 4 → getD after (4 * i + l) nan
+      ≡ over (plus (getD before (4 * i + l) nan) (getD forcing l nan)) (getD divisors i nan)
   pub sum : (l : ℕ) → l < 4 → getD z l nan ≡ weightedSum weights (laneFactors n after l) n
 
 -- lane l takes a step of the scheme
-abbrev pub LaneSteps : Kernel → RawParams → Lanes → List Float → Rates → List Float → List Float → Lanes → ℕ → Type 0
+abbrev pub LaneSteps : Kernel → RawParams → Lanes → List Float → Rates → List Float → List Float
+    → Lanes → ℕ → Type 0
 LaneSteps k p s g rates before after next l =
     laneOf (k .n) next after l
-    ≡ step (kernelInUse k) p (laneOf (k .n) s before l) (getD g l nan) (rates .dt) (rates .«sqrt_dt»)
+    ≡ step (kernelInUse k) p (laneOf (k .n) s before l) (getD g l nan) (rates .dt)
+    (rates .«sqrt_dt»)
 
 -- each lane takes a step where it is given the root of its variance
-pub record LanesStepped (roots : List Float) (k : Kernel) (p : RawParams) (s : Lanes) (g : List Float) (rates : Rates) (before after : List Float) (next : Lanes) : Type 0 where
+pub record LanesStepped (roots : List Float) (k : Kernel) (p : RawParams) (s : Lanes)
+    (g : List Float) (rates : Rates) (before after : List Float) (next : Lanes) : Type 0 where
   pub long : length after ≡ length before
-  pub lane : (l : ℕ) → l < 4 → getD roots l nan ≡ root binary64 (getD (s .variance) l nan) → LaneSteps k p s g rates before after next l
+  pub lane : (l : ℕ) → l < 4 → getD roots l nan ≡ root binary64 (getD (s .variance) l nan)
+      → LaneSteps k p s g rates before after next l
 
 -- each lane takes a step where the answer is sure
-pub record StepTried (k : Kernel) (p : RawParams) (s : Lanes) (g : List Float) (rates : Rates) (before after : List Float) (tried : Tried) : Type 0 where
+pub record StepTried (k : Kernel) (p : RawParams) (s : Lanes) (g : List Float) (rates : Rates)
+    (before after : List Float) (tried : Tried) : Type 0 where
   pub long : length after ≡ length before
-  pub lane : tried .sure ≡ true → (l : ℕ) → l < 4 → LaneSteps k p s g rates before after (tried .lanes) l
+  pub lane : tried .sure ≡ true → (l : ℕ) → l < 4
+      → LaneSteps k p s g rates before after (tried .lanes) l
 
 pub record FiniteLane (s : Lanes) (l : ℕ) : Type 0 where
   pub spot : finite (getD (s .spot) l nan) ≡ true

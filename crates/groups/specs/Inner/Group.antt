@@ -1,5 +1,5 @@
--- Four paths side by side: what is claimed of them where they are walked to their ends, and what the
--- functions of the walk leave. Definitions only.
+-- Four paths side by side: what is claimed of them where they are walked to their ends, and what
+-- the functions of the walk leave. Definitions only.
 use mathlib.Core.Path.{_≡_}
 use mathlib.Core.Bool.{Bool, false, cond, _||_}
 use mathlib.Core.List.{List}
@@ -14,9 +14,10 @@ use Rattle.model.specs.Laid.{Laid}
 use Rattle.model.specs.Walk.{stopWithin}
 use Rattle.vix.specs.declared.Vix.{Vix}
 use Rattle.walks.specs.declared.Observed.{Observed}
-use Rattle.walks.specs.Batch.{Batch, walkOf, drawPlace, observationOf, observation, nonPositivePaths}
+use Rattle.walks.specs.Batch.{Batch, walkOf, drawPlace, nonPositivePaths}
+use Rattle.walks.specs.Batch.{observationOf, observation}
 use Rattle.lanes.specs.declared.Lanes.{Lanes}
-use Rattle.lanes.specs.Lanes.{laneOf}
+use Rattle.lanes.specs.Inner.Lanes.{laneOf}
 use Rattle.groups.specs.declared.Together.{Together}
 use Rattle.groups.specs.declared.Together.the-variants.{Walked, Unsure}
 
@@ -26,19 +27,22 @@ pub record FourWalked (b : Batch) (path : ℕ) (rows : List Float) (low : ℕ) :
   pub going : (l : ℕ) → l < 4 → stopWithin (walkOf b (suc (path + l))) (b .schedule .total) ≡ none
   pub fallen : nonPositivePaths b (path + 4) ≡ nonPositivePaths b path + low
   pub few : low ≤ 4
-  pub seen : (l j : ℕ) → l < 4 → j < b .schedule .count → getD rows (l * b .schedule .count + j) nan ≡ observation b (suc (path + l)) (suc j)
+  pub seen : (l j : ℕ) → l < 4 → j < b .schedule .count
+      → getD rows (l * b .schedule .count + j) nan ≡ observation b (suc (path + l)) (suc j)
 
 abbrev pub Walks : Batch → ℕ → List Float → Together → Type 0
 Walks b path rows (Walked low) = FourWalked b path rows low
 Walks b path rows Unsure = Unit {0}
 
 -- what the walk is handed
-pub record GroupPrepared (k : Kernel) (sched : Schedule) (vix : Vix) (mirrored : Bool) (path : ℕ) (draws rows : List Float) : Type 0 where
+pub record GroupPrepared (k : Kernel) (sched : Schedule) (vix : Vix) (mirrored : Bool) (path : ℕ)
+    (draws rows : List Float) : Type 0 where
   pub few : k .n ≤ 10
   pub form : vix .n ≤ k .n
   pub laid : Laid sched
   pub most : path ≤ 65536
-  pub drawn : (l : ℕ) → l < 4 → drawPlace mirrored (sched .total) (suc (path + l)) (suc (sched .total)) ≤ length draws
+  pub drawn : (l : ℕ) → l < 4
+      → drawPlace mirrored (sched .total) (suc (path + l)) (suc (sched .total)) ≤ length draws
   pub rows-long : length rows ≡ 256
 
 -- how many of the first n flags are set
@@ -48,18 +52,22 @@ flagged flags (suc n) = flagged flags n + cond (getD flags n false) 1 0
 
 -- the flags, with those set of the spots that are not above zero
 pub record Fell (low : List Bool) (spot : List Float) (flags : List Bool) : Type 0 where
-  pub flag : (l : ℕ) → l < 4 → getD flags l false ≡ (getD low l false || le (getD spot l nan) plusZero)
+  pub flag : (l : ℕ) → l < 4
+      → getD flags l false ≡ (getD low l false || le (getD spot l nan) plusZero)
 
 -- what is observed in each lane, of states of as many factors as the form has, or more
 abbrev pub ObservedLanes : Observed → Vix → Lanes → List Float → List Float → Type 0
 ObservedLanes observed form s factors values =
-    (n l : ℕ) → form .n ≤ n → l < 4 → getD values l nan ≡ observationOf observed form (laneOf n s factors l)
+    (n l : ℕ) → form .n ≤ n → l < 4
+    → getD values l nan ≡ observationOf observed form (laneOf n s factors l)
 
 -- a column of the four rows
-pub record Column (values : List Float) (count segment : ℕ) (before after : List Float) : Type 0 where
+pub record Column (values : List Float) (count segment : ℕ) (before after : List Float)
+    : Type 0 where
   pub long : length after ≡ length before
   pub new : (l : ℕ) → l < 4 → getD after (l * count + segment) nan ≡ getD values l nan
-  pub kept : (l j : ℕ) → l < 4 → j < count → (j ≡ segment → ⊥) → getD after (l * count + j) nan ≡ getD before (l * count + j) nan
+  pub kept : (l j : ℕ) → l < 4 → j < count → (j ≡ segment → ⊥)
+      → getD after (l * count + j) nan ≡ getD before (l * count + j) nan
 
 -- `after` is `before` with `rows` from place `at` on
 pub record Copied (rows : List Float) (at : ℕ) (before after : List Float) : Type 0 where
