@@ -2,7 +2,7 @@
 ghost use mathlib.Core.Path.{_≡_};
 ghost use Prim.Native.Nat.{_≤_, _<_};
 ghost use lib.Ieee.{nan};
-ghost use lib.ListN.{getD, take};
+ghost use lib.ListN.{getD, take, length};
 ghost use Rattle.model.specs.Step.{weightedSum, varianceAt, read, step, finiteness, kernelInUse, stateInUse};
 ghost use Rattle.model.specs.Rates.{RatesOf, Moved};
 use crate::Finiteness;
@@ -14,15 +14,14 @@ use crate::State;
 use refusal::Quantity;
 
 // The sum of weight × factor, in index order, begun at -0.0.
-pub fn weighted_sum(k: Kernel, factors: [f64; 10]) -> f64
-    requires { ⌜ k .n ≤ 10 ⌝ }
-    ensures { λ r. ⌜ r ≡ weightedSum (k .weights) factors (k .n) ⌝ }
+fn weighted_sum(n: usize, weights: &[f64], factors: &[f64]) -> f64
+    requires { ⌜ (n ≤ 10) × (length (now weights) ≡ 10) × (length (now factors) ≡ 10) ⌝ }
+    ensures { λ r. ⌜ r ≡ weightedSum (now (weights .entry)) (now (factors .entry)) n ⌝ }
 {
-    let n = k.n;
     let mut sum = -0.0;
     let mut i: usize = 0;
     while i < n {
-        sum = sum + k.weights[i] * factors[i];
+        sum = sum + weights[i] * factors[i];
         i += 1;
     }
     sum
@@ -40,7 +39,8 @@ pub fn read(k: Kernel, p: RawParams, spot: f64, factors: [f64; 10]) -> State
     requires { ⌜ k .n ≤ 10 ⌝ }
     ensures { λ r. ⌜ stateInUse (k .n) r ≡ read (kernelInUse k) p spot (take (k .n) factors) ⌝ }
 {
-    let z = weighted_sum(k, factors);
+    let weights = k.weights;
+    let z = weighted_sum(k.n, &weights[..], &factors[..]);
     let variance = variance_at(p, z);
     State {
         spot: spot,
@@ -81,11 +81,11 @@ pub fn rates_at(k: Kernel, sched: Schedule, segment: usize) -> Rates
 }
 
 // Each of the first n factors becomes (factor + forcing) / divisor.
-fn move_factors(n: usize, factors: [f64; 10], forcing: f64, divisors: [f64; 10]) -> [f64; 10]
-    requires { ⌜ n ≤ 10 ⌝ }
-    ensures { λ r. ⌜ Moved n factors forcing divisors r ⌝ }
+fn move_factors(n: usize, factors: &[f64], forcing: f64, divisors: &[f64]) -> [f64; 10]
+    requires { ⌜ (n ≤ 10) × (length (now factors) ≡ 10) × (length (now divisors) ≡ 10) ⌝ }
+    ensures { λ r. ⌜ Moved n (now (factors .entry)) forcing (now (divisors .entry)) r ⌝ }
 {
-    let mut next = factors;
+    let mut next = [0.0; 10];
     let mut i: usize = 0;
     while i < n {
         next[i] = (factors[i] + forcing) / divisors[i];
@@ -105,7 +105,7 @@ pub fn step(k: Kernel, p: RawParams, s: State, g: f64, rates: Rates) -> State
     let forcing = (-p.lambda) * s.z * rates.dt + p.eta * diffusion;
     let factors = s.factors;
     let divisors = rates.divisors;
-    let next = move_factors(k.n, factors, forcing, divisors);
+    let next = move_factors(k.n, &factors[..], forcing, &divisors[..]);
     read(k, p, s.spot + s.spot * diffusion, next)
 }
 

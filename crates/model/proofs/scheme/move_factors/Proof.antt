@@ -11,10 +11,10 @@ use Rattle.model.proofs.scheme.move_factors.Statement.{statement}
 use Rattle.model.proofs.scheme.move_factors.Tie as tie
 
 abbrev Inv-loop : tie.InvT-loop
-Inv-loop n forcing factors divisors next₀ i₀ next i = (i ≤ n) × (n ≤ 10) × (length next ≡ 10) × ((j : ℕ) → j < i → getD next j nan ≡ over (plus (getD factors j nan) forcing) (getD divisors j nan))
+Inv-loop n factors forcing divisors next₀ i₀ next i = (i ≤ n) × (n ≤ 10) × (length next ≡ 10) × ((j : ℕ) → j < i → getD next j nan ≡ over (plus (getD factors j nan) forcing) (getD divisors j nan))
 
 abbrev μ-loop : tie.MeasureT-loop
-μ-loop n forcing factors divisors next₀ i₀ next i = n - i
+μ-loop n factors forcing divisors next₀ i₀ next i = n - i
 
 loop-holds : tie.Need-loop-holds Inv-loop μ-loop
 loop-holds c = (search needs, search needs, search needs, λ j h. absurd (omega arith))
@@ -22,14 +22,14 @@ loop-holds c = (search needs, search needs, search needs, λ j h. absurd (omega 
 mul-next : tie.Need-mul-next Inv-loop μ-loop
 mul-next c = search needs
 
-array-read-next : tie.Need-array-read-next Inv-loop μ-loop
-array-read-next c = search needs
+shared-slice-read-next : tie.Need-shared-slice-read-next Inv-loop μ-loop
+shared-slice-read-next c = search needs
 
 mul-next-2 : tie.Need-mul-next-2 Inv-loop μ-loop
 mul-next-2 c = search needs
 
-array-read-next-2 : tie.Need-array-read-next-2 Inv-loop μ-loop
-array-read-next-2 c = search needs
+shared-slice-read-next-2 : tie.Need-shared-slice-read-next-2 Inv-loop μ-loop
+shared-slice-read-next-2 c = search needs
 
 mul-next-3 : tie.Need-mul-next-3 Inv-loop μ-loop
 mul-next-3 c = search needs
@@ -45,7 +45,7 @@ loop-less c = search needs
 
 loop-again : tie.Need-loop-again Inv-loop μ-loop
 loop-again c =
-    (search needs, search needs, search needs, fill-next nan (λ (j : ℕ). over (plus (getD (c .before .before .args .t2) j nan) (c .before .before .args .forcing)) (getD (c .before .before .args .t4) j nan)) (c .before .loop .next) (c .before .loop .i) _ (omega arith) (c .before .loop .inv .3) refl)
+    (search needs, search needs, search needs, fill-next nan (λ (j : ℕ). over (plus (getD (c .before .before .before .before .args .factors .now) j nan) (c .before .before .before .before .args .forcing)) (getD (c .before .before .before .before .args .divisors .now) j nan)) (c .before .before .before .loop .next) (c .before .before .before .loop .i) _ (omega arith) (c .before .before .before .loop .inv .3) refl)
 
 returns : tie.Need-returns Inv-loop μ-loop
 returns c =
@@ -59,9 +59,9 @@ move-factors-spec =
     μ-loop
     loop-holds
     mul-next
-    array-read-next
+    shared-slice-read-next
     mul-next-2
-    array-read-next-2
+    shared-slice-read-next-2
     mul-next-3
     array-write-next
     add-i

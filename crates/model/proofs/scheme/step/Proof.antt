@@ -8,6 +8,12 @@ use Rattle.model.proofs.scheme.step.Tie as tie
 sqrt-requires : tie.Need-sqrt-requires
 sqrt-requires c κs = search needs
 
+slice-aggregate-move-factors : tie.Need-slice-aggregate-move-factors
+slice-aggregate-move-factors c = search needs
+
+slice-aggregate-move-factors-2 : tie.Need-slice-aggregate-move-factors-2
+slice-aggregate-move-factors-2 c = search needs
+
 move-factors-requires : tie.Need-move-factors-requires
 move-factors-requires c κs = search needs
 
@@ -16,9 +22,20 @@ read-requires c κs = search needs
 
 returns : tie.Need-returns
 returns c =
-    let known = c .before .before .before .before .before .before .before .before .before .before .before .before in
+    let moved = c .before .before .before in
+    let rooted = moved .before .before .before .before .before .before .before .before .before in
+    let known = rooted .before .before in
     c .read .ensures
-    ∙ step-take (known .args .k) (known .args .p) (known .args .s) (known .args .g) (known .args .rates) _ (known .pre .0) (known .pre .1) _ (c .before .before .before .before .before .before .before .before .before .before .sqrt .ensures .0) (c .before .before .before .move-factors .ensures)
+    ∙ step-take (known .args .k) (known .args .p) (known .args .s) (known .args .g) (known .args .rates) _ (known .pre .0)
+    (known .pre .1) _ (rooted .sqrt .ensures .0) (moved .move-factors .ensures)
 
 pub step-spec : {M : Type 1} → statement M
-step-spec = tie.close (tie.spec sqrt-requires move-factors-requires read-requires returns)
+step-spec =
+    tie.close
+    (tie.spec
+    sqrt-requires
+    slice-aggregate-move-factors
+    slice-aggregate-move-factors-2
+    move-factors-requires
+    read-requires
+    returns)

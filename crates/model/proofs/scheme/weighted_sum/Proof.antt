@@ -9,10 +9,10 @@ use Rattle.model.proofs.scheme.weighted_sum.Statement.{statement}
 use Rattle.model.proofs.scheme.weighted_sum.Tie as tie
 
 abbrev Inv-loop : tie.InvT-loop
-Inv-loop k factors n sum₀ i₀ sum i = (i ≤ n) × (n ≤ 10) × (n ≡ k .n) × (sum ≡ weightedSum (k .weights) factors i)
+Inv-loop n weights factors sum₀ i₀ sum i = (i ≤ n) × (sum ≡ weightedSum weights factors i)
 
 abbrev μ-loop : tie.MeasureT-loop
-μ-loop k factors n sum₀ i₀ sum i = n - i
+μ-loop n weights factors sum₀ i₀ sum i = n - i
 
 loop-holds : tie.Need-loop-holds Inv-loop μ-loop
 unfolding weightedSum lib.Ieee.ofBits lib.Ieee.neg
@@ -21,14 +21,14 @@ loop-holds c = search needs
 mul-sum : tie.Need-mul-sum Inv-loop μ-loop
 mul-sum c = search needs
 
-element-copy-out-sum : tie.Need-element-copy-out-sum Inv-loop μ-loop
-element-copy-out-sum c = search needs
+shared-slice-read-sum : tie.Need-shared-slice-read-sum Inv-loop μ-loop
+shared-slice-read-sum c = search needs
 
 mul-sum-2 : tie.Need-mul-sum-2 Inv-loop μ-loop
 mul-sum-2 c = search needs
 
-array-read-sum : tie.Need-array-read-sum Inv-loop μ-loop
-array-read-sum c = search needs
+shared-slice-read-sum-2 : tie.Need-shared-slice-read-sum-2 Inv-loop μ-loop
+shared-slice-read-sum-2 c = search needs
 
 add-i : tie.Need-add-i Inv-loop μ-loop
 add-i c = search needs
@@ -38,13 +38,13 @@ loop-less c = search needs
 
 loop-again : tie.Need-loop-again Inv-loop μ-loop
 unfolding weightedSum
-loop-again c =
-    (search needs, search needs, search needs, rw (add-one, c .before .before .loop .inv .3))
+loop-again c = (search needs, rw (add-one, c .before .before .before .loop .inv .1))
 
 returns : tie.Need-returns Inv-loop μ-loop
 returns c =
-    let e : c .before .loop .i ≡ c .before .before .args .t1 .n = omega arith in
-    c .before .loop .inv .3 ∙ ap (weightedSum (c .before .before .args .t1 .weights) (c .before .before .args .t2)) e
+    let start = c .before .before in
+    let e : c .before .loop .i ≡ start .args .n = omega arith in
+    c .before .loop .inv .1 ∙ ap (weightedSum (start .args .weights .now) (start .args .factors .now)) e
 
 pub weighted-sum-spec : {M : Type 1} → statement M
 weighted-sum-spec =
@@ -54,9 +54,9 @@ weighted-sum-spec =
     μ-loop
     loop-holds
     mul-sum
-    element-copy-out-sum
+    shared-slice-read-sum
     mul-sum-2
-    array-read-sum
+    shared-slice-read-sum-2
     add-i
     loop-less
     loop-again
