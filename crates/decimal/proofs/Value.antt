@@ -1,22 +1,20 @@
 -- The double of a Decimal, for the proofs of callers: which case it is, that it is finite, and its sign and size.
--- What a test says is an equation, as a branch gives it; what holds of a double is under `T`, as the laws of lib.Ieee take it. Assumes nothing.
+-- Assumes nothing.
 use mathlib.Core.Path.{_≡_, refl, sym, ap, ap₂, _∙_, subst}
-use mathlib.Core.Bool.{Bool, true, false, not, _&&_, _||_, cond, true≢false}
+use mathlib.Core.Bool.{Bool, true, false, not, _&&_, _||_, cond}
 use Prim.Native.Nat.{ℕ, _*_, _^_, _≤_, _<_, zero-le}
 use lib.Dec.{T, leb}
-use lib.IntN.{ℤ, pos, negsuc}
-use lib.Ieee.{Float, fin, binary64, up, down, le, fits}
+use lib.IntN.{ℤ, pos}
+use lib.Ieee.{fin, binary64, up, down, fits}
 use lib.Ieee.Fits.{round-fits, cond-fits}
-use lib.Ieee.Scale.{finite}
-use lib.Ieee.Positive.{num, den, positive, between}
 use borrow.Author.Tests.{leb-true, le-leb, lt-leb}
 use Rattle.decimal.specs.declared.Decimal.{Decimal}
 use Rattle.decimal.specs.declared.Converted.the-variants.{Value, ScaleTooLarge}
-use Rattle.decimal.specs.Decimal.{coefficient, isZero, isNegative, isPositive, scaleFits, nearestDouble, value, convert, ConvertsToNearest}
+use Rattle.decimal.specs.Decimal.{coefficient, isZero, isNegative, scaleFits, nearestDouble, value, convert, ConvertsToNearest}
 use Rattle.numeric.specs.Correct.{FractionIsNearest}
 use Rattle.numeric.specs.Double.{plusZero}
-use Rattle.decimal.proofs.Zero.{nonzero, negative-is, positive-nonzero, positive-not-negative}
-use Rattle.decimal.proofs.Bounds.{within, is-nearest, at-least, at-most, at-lowest, not-below}
+use Rattle.decimal.proofs.Zero.{nonzero, negative-is}
+use Rattle.decimal.proofs.Bounds.{within, is-nearest}
 
 -- ---- the cases of `value`
 by-tests : (d : Decimal) (z f : Bool) → isZero d ≡ z → leb (d .scale) 28 ≡ f → value d ≡ cond z plusZero (cond f (nearestDouble d) plusZero)
@@ -41,13 +39,12 @@ pub converted-refused : (d : Decimal) → scaleFits d ≡ false → convert d �
 unfolding convert
 converted-refused d e = ap (λ (b : Bool). cond b (Value (value d)) ScaleTooLarge) e
 
--- ---- finite, of the Decimal's sign, and from 2 ^ -94 to 2 ^ 96 in size where the Decimal is not zero
+-- ---- finite, of the Decimal's sign, and at most 2 ^ 96 in size
 pub record Converts (d : Decimal) : Type 0 where
   pub m : ℕ
   pub e : ℤ
   pub is : value d ≡ fin (isNegative d && scaleFits d) m e
   pub most : m * up e ≤ 2 ^ 96 * down e
-  pub least : isZero d ≡ false → scaleFits d ≡ true → down e ≤ m * up e * 2 ^ 94
 
 fits-is : (d : Decimal) (z f : Bool) → isZero d ≡ z → leb (d .scale) 28 ≡ f → scaleFits d ≡ z || f
 unfolding scaleFits
@@ -64,22 +61,20 @@ and-true : (b : Bool) → b && true ≡ b
 and-true true = refl
 and-true false = refl
 
-plus-zero : (d : Decimal) → value d ≡ plusZero → isNegative d && scaleFits d ≡ false → (isZero d ≡ false → scaleFits d ≡ true → ⊥) → Converts d
-plus-zero d v s n = record {
+plus-zero : (d : Decimal) → value d ≡ plusZero → isNegative d && scaleFits d ≡ false → Converts d
+plus-zero d v s = record {
   m = 0;
   e = pos 0;
   is = v ∙ ap (λ (b : Bool). fin b 0 (pos 0)) (sym s);
   most = zero-le;
-  least = λ z f. absurd (n z f);
 }
 
 module _ (d : Decimal) (W : coefficient d < 2 ^ 96) where
   by-cases : (z f : Bool) → isZero d ≡ z → leb (d .scale) 28 ≡ f → Converts d
   by-cases true f e h =
       plus-zero d (zero-value d e) (sign-is d true f e h ∙ ap (λ (b : Bool). b && true) (and-false (d .negative)))
-      (λ z t. true≢false (sym e ∙ z))
   by-cases false false e h =
-      plus-zero d (by-tests d false false e h) (sign-is d false false e h ∙ and-false (d .negative && true)) (λ z t. true≢false (sym t ∙ fits-is d false false e h))
+      plus-zero d (by-tests d false false e h) (sign-is d false false e h ∙ and-false (d .negative && true))
   by-cases false true e h =
       let w = within (coefficient d) (d .scale) (nonzero d e) W (leb-true (d .scale) 28 h) (d .negative) in
       record {
@@ -87,7 +82,6 @@ module _ (d : Decimal) (W : coefficient d < 2 ^ 96) where
         e = w .e;
         is = by-tests d false true e h ∙ w .is ∙ ap (λ (b : Bool). fin b (w .m) (w .e)) (sym (sign-is d false true e h ∙ and-true (d .negative && true) ∙ and-true (d .negative)));
         most = w .most;
-        least = λ z t. w .least;
       }
 
   pub converts : Converts d
@@ -100,34 +94,6 @@ module _ (d : Decimal) (W : coefficient d < 2 ^ 96) where
       let K = leb-true (d .scale) 28 (sym (fits-is d false (leb (d .scale) 28) z refl) ∙ f) in
       subst (FractionIsNearest (d .negative) (coefficient d) (10 ^ d .scale)) (sym (nearest-value d z K))
       (is-nearest (coefficient d) (d .scale) (nonzero d z) W K (d .negative))
-
-  -- ---- the same, one by one
-  pub value-finite : T (finite (value d))
-  value-finite = subst (λ (v : Float). T (finite v)) (sym (converts .is)) tt
-
-  pub value-size : num (value d) ≤ 2 ^ 96 * den (value d)
-  value-size = subst (λ (v : Float). num v ≤ 2 ^ 96 * den v) (sym (converts .is)) (converts .most)
-
-  pub value-most : T (le (value d) (fin false 1 (pos 96)))
-  value-most = subst (λ (v : Float). T (le v (fin false 1 (pos 96)))) (sym (converts .is)) (at-most (converts .m) (converts .e) (converts .most) (isNegative d && scaleFits d))
-
-  pub value-lowest : T (le (fin true 1 (pos 96)) (value d))
-  value-lowest = subst (λ (v : Float). T (le (fin true 1 (pos 96)) v)) (sym (converts .is)) (at-lowest (converts .m) (converts .e) (converts .most) (isNegative d && scaleFits d))
-
-  unsigned : isNegative d ≡ false → fin false (converts .m) (converts .e) ≡ value d
-  unsigned n = sym (converts .is ∙ ap (λ (b : Bool). fin (b && scaleFits d) (converts .m) (converts .e)) n)
-
-  pub value-not-below : isNegative d ≡ false → T (le plusZero (value d))
-  value-not-below n = subst (λ (v : Float). T (le plusZero v)) (unsigned n) (not-below (converts .m) (converts .e))
-
-  module _ (p : isPositive d ≡ true) (f : scaleFits d ≡ true) where
-    pub value-least : T (le (fin false 1 (negsuc 93)) (value d))
-    value-least =
-        subst (λ (v : Float). T (le (fin false 1 (negsuc 93)) v)) (unsigned (positive-not-negative d p))
-        (at-least (converts .m) (converts .e) (converts .least (positive-nonzero d p) f))
-
-    pub value-positive : T (positive (value d))
-    value-positive = between (fin false 1 (negsuc 93)) (value d) (fin false 1 (pos 96)) tt tt value-least value-most
 
 pub value-fits : (d : Decimal) → T (fits binary64 (value d))
 unfolding value

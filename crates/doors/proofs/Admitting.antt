@@ -22,16 +22,13 @@ use Rattle.refusal.proofs.Laws.{passed-first, passed-head}
 use Rattle.model.specs.declared.Kernel.{Kernel}
 use Rattle.model.specs.declared.Params.{Params}
 use Rattle.doors.specs.declared.ParamsDoor.{ParamsDoor}
-use Rattle.doors.specs.declared.ModelDoor.{ModelDoor}
 use Rattle.model.specs.declared.RawParams.{RawParams}
 use Rattle.model.specs.declared.State.{State}
-use Rattle.model.specs.Kernel.{kernelOf}
 use Rattle.model.specs.Parameters.{zeroDecimal, rawParams, rawFactors, startOf}
 use Rattle.doors.specs.Questions.{rangeQuestions, scaleQuestions, paramsQuestions}
 use Rattle.model.specs.Step.{read, kernelInUse, stateInUse}
 use Rattle.model.specs.Admitted.{Converted, ParamsReady, Admitted}
-use Rattle.doors.specs.Doors.{KernelReady, ParamsPrepared, ModelReady}
-use Rattle.doors.specs.Model.{Model}
+use Rattle.doors.specs.Doors.{KernelReady, ParamsPrepared}
 
 -- ---- one Decimal
 at-most : (m : ℕ) (e : ℤ) → m * up e ≤ 2 ^ 96 * down e → le (fin false m e) (fin false 1 (pos 96)) ≡ true
@@ -110,10 +107,6 @@ starts-read k p raw s r e =
     subst (λ (x : RawParams). s ≡ read k x (s .spot) (s .factors)) (sym r)
     (subst (λ (x : State). x ≡ read k (rawParams p) (x .spot) (x .factors)) (sym e) refl)
 
--- what is admitted stays so under another description of it
-same-admitted : {k k′ : Kernel} {p p′ : RawParams} {s s′ : State} → k ≡ k′ → p ≡ p′ → s ≡ s′ → Admitted k p s → Admitted k′ p′ s′
-same-admitted a b c h = rw (a, b, c) at h
-
 module _ (weights discounts : List Float) (k : Kernel) (p : Params) (r : ParamsDoor) (tables : KernelReady weights discounts k) (initial : ParamsPrepared k p r) (passed : r .outcome ≡ Passed) where
   -- of the tables and the start as the doors prepare them
   pub admitted : Admitted (kernelInUse k) (r .raw) (stateInUse (k .n) (r .start))
@@ -124,12 +117,3 @@ module _ (weights discounts : List Float) (k : Kernel) (p : Params) (r : ParamsD
         params = initial .ready passed;
         start-read = starts-read (kernelInUse k) p (r .raw) (stateInUse (k .n) (r .start)) (initial .raw) (initial .start);
       }
-
-  -- and so of those given
-  pub admitted-given : Admitted (kernelOf weights discounts) (rawParams p) (startOf (kernelOf weights discounts) p)
-  admitted-given =
-      same-admitted (tables .in-use) (initial .raw) (initial .start ∙ ap (λ (x : Kernel). startOf x p) (tables .in-use)) admitted
-
--- the same of what every simulating call prepares
-pub model-admitted : (m : Model) (r : ModelDoor) → ModelReady m r → Admitted (kernelOf (m .weights) (m .discounts)) (rawParams (m .params)) (startOf (kernelOf (m .weights) (m .discounts)) (m .params))
-model-admitted m r ready = same-admitted (ready .kernel .in-use) (ready .raw) (ready .start) (ready .admitted)

@@ -1,22 +1,14 @@
 -- One more degree, and one more squaring. Assumes nothing.
 use mathlib.Core.Path.{_≡_, refl, ap, _∙_}
-use mathlib.Core.Bool.{cond}
 use mathlib.Core.List.{List}
-use Prim.Native.Nat.{ℕ, zero, suc, _+_, _-_, _*_, _≤_, _<_}
+use Prim.Native.Nat.{ℕ, suc, _+_, _-_, _*_, _≤_, _<_}
 use native.Mathlib.Nat.{le-antisymm}
 use native.Mathlib.Numerals.{add-one}
 use native.Mathlib.Omega.{arith}
-use lib.Dec.{eqb}
-use lib.IntN.{pos}
-use lib.ListN.{length}
-use lib.Ieee.{Float, binary64, ofInt}
-use Rattle.numeric.specs.Double.{over, one, plusZero}
-use Rattle.matrix.specs.Matrix.{norm1, product, square, scaled, identity}
-use Rattle.matrix.specs.Exponential.{twoToMinus, squarings, hornerStep, horner, squared, exponentialBy, exponential}
+use lib.Ieee.{Float}
+use Rattle.matrix.specs.Matrix.{product, square, identity}
+use Rattle.matrix.specs.Exponential.{hornerStep, horner, squared}
 use Rattle.matrix.specs.Workspace.{matrixAt, First}
-use Rattle.matrix.proofs.Cells.{length-matrix}
-use Rattle.matrix.proofs.Products.{length-product}
-use Rattle.matrix.proofs.Diagonal.{length-bumped}
 
 module _ (n : ℕ) (before : List Float) where
   -- the result after the degrees above `degree`, with the scaled matrix behind it
@@ -59,21 +51,3 @@ squared-more n start result result' k e p = rw (add-one, p, e)
 
 pub squared-all : (n : ℕ) (start result : List Float) (k s : ℕ) → result ≡ squared n start k → k ≤ s → s ≤ k → result ≡ squared n start s
 squared-all n start result k s e l h = e ∙ ap (squared n start) (le-antisymm l h)
-
--- ---- the exponential of any list has n × n entries
-
-length-horner : (n : ℕ) (a : List Float) (t : ℕ) → length (horner n a t) ≡ n * n
-unfolding horner hornerStep identity
-length-horner n a zero = length-matrix n (λ i j. cond (eqb i j) one plusZero)
-length-horner n a (suc t) = length-bumped n (scaled (over one (ofInt binary64 (pos (18 - t)))) (product n a (horner n a t)))
-
-length-squared : (n : ℕ) (result : List Float) (s : ℕ) → length result ≡ n * n → length (squared n result s) ≡ n * n
-unfolding squared square
-length-squared n result zero e = e
-length-squared n result (suc s) e = length-product n (squared n result s) (squared n result s)
-
-pub length-exponential : (n : ℕ) (a : List Float) → length (exponential n a) ≡ n * n
-unfolding exponential exponentialBy
-length-exponential n a =
-    let s = squarings (norm1 n a) in
-    length-squared n (horner n (scaled (twoToMinus s) a) 18) s (length-horner n (scaled (twoToMinus s) a) 18)

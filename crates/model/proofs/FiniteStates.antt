@@ -25,7 +25,7 @@ use Rattle.model.proofs.First.{split}
 use Rattle.numeric.proofs.Finite.{never, sign, plus-finite, times-finite}
 use Rattle.numeric.proofs.Order.{le→ordered}
 use Rattle.numeric.proofs.Monotone.{variance-ge}
-use Rattle.numeric.proofs.Bounds.{Within, within-mono, minus-within, zero-within, dot-within, variance-within, range}
+use Rattle.numeric.proofs.Bounds.{Within, within-mono, minus-within, zero-within, dot-within, variance-within, range-within}
 
 -- ---- a finite z has finite factors
 pub sum-factors : (weights factors : List Float) (n : ℕ) → finite (weightedSum weights factors n) ≡ true → (i : ℕ) → i < n → finite (getD factors i nan) ≡ true
@@ -79,7 +79,7 @@ weight-within : (x : Float) → inRange x ≡ true → Within 90 x
 unfolding inRange
 weight-within x h =
     let ends = and-eq-true-iff (le (fin false 1 (negsuc 89)) x) (le x (fin false 1 (pos 90))) .0 h in
-    range 89 90 x (ends .0) (ends .1) .within
+    range-within 89 90 x (ends .0) (ends .1)
 
 -- a number that is its own magnitude has no minus sign
 no-sign : (x : Float) → finite x ≡ true → magnitude x ≡ x → sign x ≡ false

@@ -2,20 +2,20 @@
 -- Assumes nothing.
 use mathlib.Core.Path.{_≡_, refl, sym, ap, _∙_, subst}
 use Prim.Native.Nat.{ℕ, suc, _+_, _-_, _*_, _^_, _≤_, _<_, zero-le}
-use native.Mathlib.Nat.{le-trans, le-of-eq, lt-of-lt-of-le, lt-of-le-of-lt, le-of-lt, zero-lt-suc, zero-mul, mul-one, one-mul, mul-comm, mul-assoc, mul-right-comm, mul-mul-mul-comm, mul-le-mul, mul-le-mul-right, le-of-mul-le-mul-right, le-mul-of-pos-right, mul-pos, lt-irrefl, not-le-of-lt}
+use native.Mathlib.Nat.{le-trans, le-of-eq, zero-lt-suc, mul-one, one-mul, mul-comm, mul-assoc, mul-right-comm, mul-mul-mul-comm, mul-le-mul, mul-le-mul-right, le-of-mul-le-mul-right, mul-pos}
 use native.Mathlib.Omega.{arith}
-use mathlib.Core.Bool.{Bool, true, false, not, _&&_, cond, Bool·beq}
-use lib.IntN.{ℤ, pos, negsuc}
-use lib.Dec.{T, ltb, eqb, ltb→lt, lt→ltb, eqb→eq, not-T}
-use lib.Pow.{pow-add, pow-pos, pow-mono, pow-lt}
-use lib.Ieee.{Float, nan, inf, fin, Format, binary64, prec, emax, low, unlike, up, down, round, neg, sum, add, sub, mul, div, lt, le, fits}
-use lib.Ieee.Bits.{is-true, cond-no}
-use lib.Ieee.Fits.{round-fits, two, up-pos, down-pos}
+use mathlib.Core.Bool.{Bool, true, false, _&&_, cond, Bool·beq}
+use lib.IntN.{pos, negsuc}
+use lib.Dec.{T, ltb}
+use lib.Pow.{pow-add, pow-mono, pow-lt}
+use lib.Ieee.{Float, nan, inf, fin, Format, binary64, prec, emax, low, unlike, up, down, round, neg, sum, add, sub, mul, le}
+use lib.Ieee.Bits.{is-true}
+use lib.Ieee.Fits.{two, down-pos}
 use lib.Ieee.Exact.{HasValue, round-exact}
 use lib.Ieee.Order.{round-mono}
-use lib.Ieee.Positive.{num, den, den-pos, positive, above, above-of-le, between, positive-of-value, first-pos}
-use Rattle.numeric.specs.Double.{plus, less, times, over, one, plusZero, finite}
-use Rattle.numeric.proofs.Finite.{holds, never, sign, apart, neg-finite}
+use lib.Ieee.Positive.{num, den, den-pos, positive, between}
+use Rattle.numeric.specs.Double.{plus, less, times, finite}
+use Rattle.numeric.proofs.Finite.{holds, never, sign, neg-finite}
 use Rattle.numeric.proofs.Order.{Ordered, le→ordered}
 use Rattle.numeric.proofs.Rounded.{value-finite, value-fraction, round-sign, round-neg}
 
@@ -159,102 +159,16 @@ dot-within {i} {j} k {z} {x} {y} w v u h =
 pub variance-within : {i j : ℕ} {a s c : Float} → Within i a → Within j s → Within i c → i + j + j + 1 ≤ 1023 → Within (i + j + j + 1) (plus (times (times a s) s) c)
 variance-within w v u h = plus-within (times-within (times-within w v (omega arith)) v (omega arith)) (within-mono u (omega arith)) h
 
--- ---- a quotient by what is at least 1
-
--- 1 ≤ ±b / c
-divisor : (t : Bool) (b c : ℕ) → 0 < c → Ordered false (1 * c) t (b * 1) → c ≤ b
-divisor false b c C h = le-trans (le-of-eq (sym (one-mul c))) (le-trans h (le-of-eq (mul-one b)))
-divisor true b c C h = absurd (not-le-of-lt C (le-trans (le-of-eq (sym (one-mul c))) (h .0)))
-
-not-zero : (n u : ℕ) → 0 < n * u → T (not (eqb n 0))
-not-zero n u h = not-T (eqb n 0) (λ t. lt-irrefl 0 (subst (λ (x : ℕ). 0 < x) (ap (λ (x : ℕ). x * u) (eqb→eq n 0 t) ∙ zero-mul u) h))
-
-over-at : (k : ℕ) (x y : Float) → Within k x → le one y ≡ true → k ≤ 1023 → Within k (over x y)
-unfolding le div
-over-at k nan y w l h = never refl (w .is-finite)
-over-at k (inf s) y w l h = never refl (w .is-finite)
-over-at k (fin s m e) nan w l h = never refl l
-over-at k (fin s m e) (inf t) w l h = record { is-finite = refl; at-most = zero-le }
-over-at k (fin s m e) (fin t n d) w l h =
-    let g : down d ≤ n * up d = divisor t (n * up d) (down d) (down-pos d) (le→ordered one (fin t n d) refl refl l) in
-    let N : 0 < n * up d = lt-of-lt-of-le (down-pos d) g in
-    subst (λ (x : Float). Within k x) (sym (cond-no (eqb n 0) (cond (eqb m 0) nan (inf (unlike s t))) (round binary64 (unlike s t) (m * up e * down d) (n * up d * down e)) (not-zero n (up d) N)))
-    (round-within binary64 (unlike s t) (m * up e * down d) (n * up d * down e) k (mul-pos N (down-pos e)) h
-    (le-trans (mul-le-mul (w .at-most) g) (le-of-eq (mul-assoc (2 ^ k) (down e) (n * up d) ∙ ap (λ (x : ℕ). 2 ^ k * x) (mul-comm (down e) (n * up d))))))
-
-pub over-within : {k : ℕ} {x : Float} (y : Float) → Within k x → le one y ≡ true → k ≤ 1023 → Within k (over x y)
-over-within {k} {x} y w l h = over-at k x y w l h
-
 -- ---- a float between two powers of two
 
-pub record InRange (k : ℕ) (x : Float) : Type 0 where
-  pub shape : (m : ℕ) × (e : ℤ) × (x ≡ fin false m e) × (0 < m)
-  pub sign-clear : sign x ≡ false
-  pub above-zero : lt plusZero x ≡ true
-  pub within : Within k x
-
-positive-lt : (x : Float) → T (positive x) → lt plusZero x ≡ true
-unfolding lt
-positive-lt nan p = absurd p
-positive-lt (inf s) p = absurd p
-positive-lt (fin true m e) p = absurd p
-positive-lt (fin false m e) p = is-true (ltb (0 * down e) (m * up e * 1)) (lt→ltb (0 * down e) (m * up e * 1) (lt-of-le-of-lt (le-of-eq (zero-mul (down e))) (lt-of-lt-of-le (mul-pos (ltb→lt 0 m p) (up-pos e)) (le-of-eq (sym (mul-one (m * up e)))))))
-
-in-range : (k : ℕ) (x : Float) → T (positive x) → le x (fin false 1 (pos k)) ≡ true → InRange k x
-in-range k nan p h = absurd p
-in-range k (inf s) p h = absurd p
-in-range k (fin true m e) p h = absurd p
-in-range k (fin false m e) p h = record {
-  shape = (m, e, refl, ltb→lt 0 m p);
-  sign-clear = refl;
-  above-zero = positive-lt (fin false m e) p;
-  within = record { is-finite = refl; at-most = le-trans (le-of-eq (sym (mul-one (m * up e)))) (le-trans (le→ordered (fin false m e) (fin false 1 (pos k)) refl refl h) (le-of-eq (ap (λ (x : ℕ). x * down e) (one-mul (2 ^ k))))) };
+positive-within : (k : ℕ) (x : Float) → T (positive x) → le x (fin false 1 (pos k)) ≡ true → Within k x
+positive-within k nan p h = absurd p
+positive-within k (inf s) p h = absurd p
+positive-within k (fin true m e) p h = absurd p
+positive-within k (fin false m e) p h = record {
+  is-finite = refl;
+  at-most = le-trans (le-of-eq (sym (mul-one (m * up e)))) (le-trans (le→ordered (fin false m e) (fin false 1 (pos k)) refl refl h) (le-of-eq (ap (λ (x : ℕ). x * down e) (one-mul (2 ^ k)))));
 }
 
-pub range : (j k : ℕ) (x : Float) → le (fin false 1 (negsuc j)) x ≡ true → le x (fin false 1 (pos k)) ≡ true → InRange k x
-range j k x l h = in-range k x (between (fin false 1 (negsuc j)) x (fin false 1 (pos k)) tt tt (holds l) (holds h)) h
-
--- ---- a fraction below 2 ^ k
-
-pub fraction-within : (s : Bool) (a c k : ℕ) → a < 2 ^ k → 0 < c → k ≤ 1023 → Within k (round binary64 s a c)
-fraction-within s a c k h C K = round-within binary64 s a c k C K (le-trans (le-of-lt h) (le-mul-of-pos-right (2 ^ k) C))
-
-pub round-holds : (f : Format) (s : Bool) (a c : ℕ) → fits f (round f s a c) ≡ true
-round-holds f s a c = is-true (fits f (round f s a c)) (round-fits f s a c)
-
-pub round-shape : (f : Format) (s : Bool) (a c : ℕ) → finite (round f s a c) ≡ true → (m : ℕ) × (e : ℤ) × (round f s a c ≡ fin s m e)
-round-shape f s a c h =
-    let r = apart (round f s a c) h in
-    (r .0, r .1, r .2 ∙ ap (λ (t : Bool). fin t (r .0) (r .1)) (round-sign f s a c))
-
-above-lt : (x : Float) → T (above x) → lt plusZero x ≡ true
-above-lt nan p = absurd p
-above-lt (inf s) p = unfold lt in is-true (not s) p
-above-lt (fin true m e) p = absurd p
-above-lt (fin false m e) p = positive-lt (fin false m e) p
-
--- a fraction that is at least the smallest positive value rounds to a value above 0
-least-value : (f : Format) → HasValue (round f false 1 (2 ^ low f)) false 1 (2 ^ low f)
-least-value f = round-exact f false 1 (2 ^ low f) 1 0 (pow-pos (low f)) (one-below (prec f) (two f)) (pow-lt {i = 0} (some (low f) (emax f))) refl
-  where
-    some : (l t : ℕ) → 0 < l + suc t
-    some l t = omega arith
-
-pub round-positive : (f : Format) (a c : ℕ) → 0 < c → c ≤ a * 2 ^ low f → lt plusZero (round f false a c) ≡ true
-round-positive f a c C h =
-    let x = round f false a c in
-    let y = round f false 1 (2 ^ low f) in
-    let p : T (positive y) = positive-of-value y 1 (2 ^ low f) (least-value f) (zero-lt-suc 0) in
-    above-lt x (above-of-le y x p (round-mono f 1 (2 ^ low f) a c (pow-pos (low f)) C (le-trans (le-of-eq (one-mul c)) h)))
-
--- ---- what is at least a float above 0 is above 0
-
-lt-positive : (x : Float) → finite x ≡ true → lt plusZero x ≡ true → T (positive x)
-unfolding lt
-lt-positive nan p h = never refl h
-lt-positive (inf s) p h = never refl p
-lt-positive (fin true m e) p h = never refl h
-lt-positive (fin false m e) p h = lt→ltb 0 m (first-pos m (up e) (first-pos (m * up e) 1 (lt-of-le-of-lt zero-le (ltb→lt (0 * down e) (m * up e * 1) (holds h)))))
-
-pub above-through : (x y : Float) → finite x ≡ true → lt plusZero x ≡ true → le x y ≡ true → lt plusZero y ≡ true
-above-through x y p h l = above-lt y (above-of-le x y (lt-positive x p h) (holds l))
+pub range-within : (j k : ℕ) (x : Float) → le (fin false 1 (negsuc j)) x ≡ true → le x (fin false 1 (pos k)) ≡ true → Within k x
+range-within j k x l h = positive-within k x (between (fin false 1 (negsuc j)) x (fin false 1 (pos k)) tt tt (holds l) (holds h)) h

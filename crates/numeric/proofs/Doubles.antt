@@ -10,7 +10,7 @@ use lib.Ieee.{Float, nan, inf, fin, binary64, fits, isNan, neg, div, lt, up, dow
 use lib.Ieee.Bits.{ofBits-toBits, toBits-lt}
 use lib.Ieee.Fits.{inf-fits}
 use lib.Ieee.Scale.{finite}
-use Rattle.numeric.specs.Double.{one, plusZero, minusZero, magnitude}
+use Rattle.numeric.specs.Double.{plusZero, minusZero, magnitude}
 
 -- ---- literals
 
@@ -21,10 +21,6 @@ zero-is = refl
 pub minus-zero-is : neg (ofBits binary64 0) ≡ minusZero
 unfolding ofBits neg
 minus-zero-is = refl
-
-pub one-is : ofBits binary64 0x3ff0_0000_0000_0000 ≡ one
-unfolding ofBits
-one-is = refl
 
 pub infinity-is : div binary64 (ofBits binary64 0x3ff0_0000_0000_0000) (ofBits binary64 0) ≡ inf false
 unfolding ofBits div

@@ -1,4 +1,4 @@
--- The order of finite floats is that of the fractions ±`num` / `den` that they stand for. So `le` is reflexive and transitive, and `neg` turns it round. Assumes nothing.
+-- The order of finite floats is that of the fractions ±`num` / `den` that they stand for. So `le` is transitive, and `neg` turns it round. Assumes nothing.
 use mathlib.Core.Path.{_≡_, refl, sym}
 use mathlib.Core.Logic.{_⊎_, inl, inr}
 use Prim.Native.Nat.{ℕ, _+_, _*_, _≤_, _<_, zero-le}
@@ -92,9 +92,6 @@ ordered→le (fin s m e) (fin t n d) p q h =
 pub ordered-refl : (s : Bool) (a : ℕ) → Ordered s a s a
 ordered-refl false a = le-refl a
 ordered-refl true a = le-refl a
-
-pub le-self : (x : Float) → finite x ≡ true → le x x ≡ true
-le-self x h = ordered→le x x h h (ordered-refl (sign x) (num x * den x))
 
 -- ---- three fractions
 

@@ -1,10 +1,10 @@
 -- `numeric::is_root` meets its contract. Assumes nothing.
-use mathlib.Core.Path.{_≡_, sym, ap, _∙_, subst}
+use mathlib.Core.Path.{_≡_, sym, _∙_, subst}
 use mathlib.Core.Bool.{false≢true}
 use Prim.Native.Nat.{ℕ, _+_, _*_, _/_, _%_, _^_}
 use native.Mathlib.Omega.{arith}
 use lib.Dec.{T}
-use lib.Ieee.{Float, binary64, fits, toBits}
+use lib.Ieee.{binary64, toBits}
 use borrow.Author.Needs.{needs}
 use Rattle.numeric.specs.Step.{Significand}
 use Rattle.numeric.proofs.Exponents.{significand}
