@@ -11,32 +11,17 @@ ghost use Rattle.vix.specs.Build.{formOf};
 use crate::Vix;
 use crate::state;
 
-// The coefficients of the factors.
-fn linear(n: usize, at: usize, work: &[f64]) -> [f64; 10]
-    requires { ⌜ (n ≤ 10) × (at + n ≤ length (now work)) ⌝ }
-    ensures { λ r. ⌜ take n r ≡ tabulate n (λ i. getD (now (work .entry)) (at + i) nan) ⌝ }
+// Copies the `count` doubles at `at` of the workspace to the front of `into`.
+fn copy_front(count: usize, at: usize, work: &[f64], into: &mut [f64])
+    requires { ⌜ (count ≤ length (now into)) × (at + count ≤ length (now work)) ⌝ }
+    ensures { λ _. ⌜ take count (now (into .exit))
+        ≡ tabulate count (λ i. getD (now (work .entry)) (at + i) nan) ⌝ }
 {
-    let mut coefficients = [0.0; 10];
-    let mut i: usize = 0;
-    while i < n {
-        coefficients[i] = work[at + i];
-        i += 1;
-    }
-    coefficients
-}
-
-// The coefficients of the pairs.
-fn pairs(count: usize, at: usize, work: &[f64]) -> [f64; 55]
-    requires { ⌜ (count ≤ 55) × (at + count ≤ length (now work)) ⌝ }
-    ensures { λ r. ⌜ take count r ≡ tabulate count (λ i. getD (now (work .entry)) (at + i) nan) ⌝ }
-{
-    let mut coefficients = [0.0; 55];
     let mut i: usize = 0;
     while i < count {
-        coefficients[i] = work[at + i];
+        into[i] = work[at + i];
         i += 1;
     }
-    coefficients
 }
 
 // The form in n factors that the matrix at the front of the workspace holds.
@@ -48,13 +33,15 @@ pub(crate) fn of_matrix(n: usize, dim: usize, window: f64, work: &[f64]) -> Vix
     let count = state::pairs_before(n, n);
     let scale = 10000.0 / window;
     let constant = work[at + dim - 1];
-    let of_factors = linear(n, at, work);
-    let of_pairs = pairs(count, at + n, work);
+    let mut linear = [0.0; 10];
+    copy_front(n, at, work, &mut linear);
+    let mut pairs = [0.0; 55];
+    copy_front(count, at + n, work, &mut pairs);
     Vix {
         n: n,
         scale: scale,
         constant: constant,
-        linear: of_factors,
-        pairs: of_pairs,
+        linear: linear,
+        pairs: pairs,
     }
 }

@@ -41,29 +41,40 @@ shared-slice-read-constant c =
     let start = c .before .before .before in
     omega (arith, bounds start, start .pre .1, start .pre .2)
 
-linear-requires : tie.Need-linear-requires
-linear-requires c κs =
-    let start = c .before .before .before in
+slice-aggregate-copy-front : tie.Need-slice-aggregate-copy-front
+slice-aggregate-copy-front c = refl
+
+copy-front-requires : tie.Need-copy-front-requires
+copy-front-requires c κs =
+    let start = c .before .before .before .before in
     (start .pre .0, omega (arith, bounds start, start .pre .1, start .pre .2))
 
-add-pairs : tie.Need-add-pairs
-add-pairs c =
-    let start = c .before .before .before .before in
+add-copy-front : tie.Need-add-copy-front
+add-copy-front c =
+    let start = c .before .before .before .before .before .before in
     omega (arith, bounds start, start .pre .0)
 
-pairs-requires : tie.Need-pairs-requires
-pairs-requires c κs =
-    let start = c .before .before .before .before in
-    let count = c .before .before .pairs-before .ensures in
+slice-aggregate-copy-front-2 : tie.Need-slice-aggregate-copy-front-2
+slice-aggregate-copy-front-2 c = refl
+
+copy-front-requires-2 : tie.Need-copy-front-requires-2
+copy-front-requires-2 c κs =
+    let counted = c .before .before .before .before .before in
+    let start = counted .before .before in
+    let count = counted .pairs-before .ensures in
     let most = pairs-most (start .args .n) (start .pre .0) in
-    (omega (arith, count, most), omega (arith, bounds start, count, start .pre .1, start .pre .2))
+    let few : counted .pairs-before .result ≤ 55 = omega (arith, count, most) in
+    (few, omega (arith, bounds start, count, start .pre .1, start .pre .2))
 
 returns : tie.Need-returns
 unfolding ofBits ofInt
 returns c =
-    let start = c .before .before .before .before .before in
-    formed (start .args .n) (start .pre .1) (start .args .work .now) (start .args .window) (c .before .linear .result) (c .pairs .result) _ (c .before .before .before .pairs-before .result) refl refl
-    (c .before .linear .ensures) (c .before .before .before .pairs-before .ensures) (c .pairs .ensures)
+    let factors = c .before .before .before .before in
+    let counted = factors .before .before .before in
+    let start = counted .before .before in
+    formed (start .args .n) (start .pre .1) (start .args .work .now) (start .args .window)
+    (factors .copy-front .last .1 .1 .1 .0) (c .before .copy-front2 .last .1 .1 .1 .0) _ (counted .pairs-before .result)
+    refl refl (factors .copy-front .ensures) (counted .pairs-before .ensures) (c .before .copy-front2 .ensures)
 
 pub of-matrix-spec : {M : Type 1} → statement M
 of-matrix-spec =
@@ -76,7 +87,9 @@ of-matrix-spec =
     sub-constant
     mul-constant
     shared-slice-read-constant
-    linear-requires
-    add-pairs
-    pairs-requires
+    slice-aggregate-copy-front
+    copy-front-requires
+    add-copy-front
+    slice-aggregate-copy-front-2
+    copy-front-requires-2
     returns)
