@@ -17,7 +17,8 @@ use Rattle.model.specs.declared.Finiteness.the-variants.{Finite, NonFinite}
 use Rattle.model.specs.Step.{step, finiteness}
 use Rattle.model.specs.Schedule.{lastStep, dtAt, sqrtDtAt}
 use Rattle.model.specs.Laid.{Laid}
-use Rattle.model.specs.Walk.{stateAfter, firstSome, stopWithin}
+use Rattle.model.specs.First.{firstSome}
+use Rattle.model.specs.Walk.{stateAfter, stopWithin}
 use Rattle.model.proofs.First.{split}
 use Rattle.model.proofs.Stops.{stopAt, stop-goes, stop-ends, stop-none}
 use Rattle.model.proofs.Containment.{Reached, reached-none, reached-open, reached-shut, reached-next, reached-on, reached-behind, reached-ahead, last-most}

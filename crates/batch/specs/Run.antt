@@ -12,7 +12,8 @@ use Rattle.model.specs.declared.Kernel.{Kernel}
 use Rattle.model.specs.declared.Schedule.{Schedule}
 use Rattle.model.specs.Schedule.{lastStep}
 use Rattle.model.specs.Laid.{Laid}
-use Rattle.model.specs.Walk.{Stop, stopWithin, firstSome, orElse, unlessStopped}
+use Rattle.model.specs.First.{firstSome, orElse}
+use Rattle.model.specs.Walk.{Stop, stopWithin, unlessStopped}
 use Rattle.vix.specs.declared.Vix.{Vix}
 use Rattle.walks.specs.Batch.{Batch, walkOf, drawsNeeded, nonPositivePaths, observation}
 use Rattle.batch.specs.declared.Run.{Run}

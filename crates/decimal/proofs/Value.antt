@@ -1,7 +1,7 @@
 -- The double of a Decimal, for the proofs of callers: which case it is, that it is finite, and its sign and size.
 -- Assumes nothing.
 use mathlib.Core.Path.{_≡_, refl, sym, ap, ap₂, _∙_, subst}
-use mathlib.Core.Bool.{Bool, true, false, not, _&&_, _||_, cond}
+use mathlib.Core.Bool.{Bool, true, false, not, _&&_, _||_, cond, and-true, and-false}
 use Prim.Native.Nat.{ℕ, _*_, _^_, _≤_, _<_, zero-le}
 use lib.Dec.{T, leb}
 use lib.IntN.{ℤ, pos}
@@ -52,14 +52,6 @@ fits-is d z f e h = ap₂ (λ (a b : Bool). a || b) e h
 
 sign-is : (d : Decimal) (z f : Bool) → isZero d ≡ z → leb (d .scale) 28 ≡ f → isNegative d && scaleFits d ≡ (d .negative && not z) && (z || f)
 sign-is d z f e h = ap₂ (λ (a b : Bool). a && b) (negative-is d ∙ ap (λ (a : Bool). d .negative && not a) e) (fits-is d z f e h)
-
-and-false : (b : Bool) → b && false ≡ false
-and-false true = refl
-and-false false = refl
-
-and-true : (b : Bool) → b && true ≡ b
-and-true true = refl
-and-true false = refl
 
 plus-zero : (d : Decimal) → value d ≡ plusZero → isNegative d && scaleFits d ≡ false → Converts d
 plus-zero d v s = record {

@@ -1,6 +1,7 @@
 -- The segment that contains a step. In a schedule as its door lays it out, each step from 1 to N is contained in exactly one. Assumes nothing.
-use mathlib.Core.Path.{_≡_, refl, sym, ap, _∙_}
-use mathlib.Core.Bool.{Bool, true, false, and-false, and-eq-true-iff}
+use mathlib.Core.Path.{_≡_, refl, ap, _∙_}
+use mathlib.Core.Bool.{Bool, true, false, cond, and-false, and-eq-true-iff}
+use mathlib.Core.Option.{Option, none, some, Option·getD}
 use mathlib.Core.Logic.{⊎-elim}
 use Prim.Native.Nat.{ℕ, zero, suc, _+_, _≤_, _<_}
 use native.Mathlib.Numerals.{add-one}
@@ -11,28 +12,9 @@ use lib.ListN.{getD}
 use lib.Seq.{getD-take}
 use lib.Ieee.{nan}
 use Rattle.model.specs.declared.Schedule.{Schedule}
-use Rattle.model.specs.Schedule.{lastStep, contains, orNext, firstOf, segmentOf, dtAt, sqrtDtAt, scheduleInUse}
+use Rattle.model.specs.Schedule.{lastStep, contains, segmentOf, dtAt, sqrtDtAt, scheduleInUse}
 use Rattle.model.specs.Laid.{Laid}
-use Rattle.model.proofs.First.{split}
-
--- ---- the first number that passes
-module _ (passes : ℕ → Bool) where
-  first-of-none : (n : ℕ) → ((i : ℕ) → 1 ≤ i → i ≤ n → passes i ≡ false) → firstOf passes n ≡ 0
-  unfolding firstOf
-  first-of-none zero fail = refl
-  first-of-none (suc n) fail =
-      rw (first-of-none n (λ i a b. fail i a (omega arith)), fail (suc n) (omega arith) (omega arith), orNext)
-
-  pub first-of : (g n : ℕ) → g < n → passes (suc g) ≡ true → ((i : ℕ) → 1 ≤ i → i ≤ g → passes i ≡ false) → firstOf passes n ≡ suc g
-  unfolding firstOf
-  first-of g zero h pass fail = absurd (omega arith)
-  first-of g (suc n) h pass fail =
-      ⊎-elim (λ (z : g < n). rw (first-of g n z pass fail, orNext))
-      (λ (z : n ≤ g).
-      let e : g ≡ n = omega arith in
-      let here : passes (suc n) ≡ true = rw e at pass in
-      rw (first-of-none n (λ i a b. fail i a (omega arith)), here, orNext) (ap suc (sym e)))
-      (split g n)
+use Rattle.model.proofs.First.{split, at-first}
 
 -- ---- g segments have ended by step k, and the next, if there is one, has not
 pub record Reached (sc : Schedule) (g k : ℕ) : Type 0 where
@@ -62,8 +44,16 @@ module _ (sc : Schedule) (laid : Laid sc) where
   pub segment-of : (g k : ℕ) → g < sc .count → lastStep sc g < k → k ≤ lastStep sc (suc g) → segmentOf sc k ≡ suc g
   unfolding segmentOf
   segment-of g k b lo hi =
-      first-of _ g (sc .count) b (contains-yes g k lo hi)
-      (λ i a z. contains-no i k (omega (arith, last-before i g z (omega arith))))
+      ap (λ (o : Option ℕ). Option·getD o 0)
+      (at-first _ (sc .count) (suc g) (suc g)
+      (record {
+        from = omega arith;
+        upto = b;
+        here = ap (λ (passes : Bool). cond passes (some (suc g)) none) (contains-yes g k lo hi);
+        earlier = λ i a z.
+            ap (λ (passes : Bool). cond passes (some i) none)
+            (contains-no i k (omega (arith, last-before i g (omega arith) (omega arith))));
+      }))
 
   -- ---- a walk among the segments
   pub reached-none : Reached sc 0 0

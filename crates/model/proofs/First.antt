@@ -6,7 +6,7 @@ use Prim.Native.Nat.{ℕ, zero, suc, _+_, _-_, _<_, _≤_}
 use native.Mathlib.Nat.{add-zero, add-suc, add-sub-of-le}
 use native.Mathlib.Decide.{decLt}
 use native.Mathlib.Omega.{arith}
-use Rattle.model.specs.Walk.{firstSome}
+use Rattle.model.specs.First.{firstSome}
 
 pub split : (a b : ℕ) → (a < b) ⊎ (b ≤ a)
 split a b = go (decLt a b)

@@ -1,5 +1,6 @@
 pub mod Kernel
 pub mod Parameters
+pub mod First
 pub mod Schedule
 pub mod Step
 pub mod Walk

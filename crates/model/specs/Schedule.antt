@@ -1,5 +1,6 @@
 -- A schedule: segments of a Decimal dt and a step count, laid end to end. Definitions only.
-use mathlib.Core.Bool.{Bool, true, false, _&&_}
+use mathlib.Core.Bool.{Bool, false, cond, _&&_}
+use mathlib.Core.Option.{none, some, Option·getD}
 use Prim.Native.Nat.{ℕ, zero, suc, pred, _+_}
 use lib.Dec.{leb, ltb}
 use lib.ListN.{getD, take}
@@ -11,6 +12,7 @@ use Rattle.model.specs.declared.Segment.{Segment}
 use Rattle.model.specs.declared.Segments.{Segments}
 use Rattle.model.specs.declared.Schedule.{Schedule}
 use Rattle.model.specs.Parameters.{zeroDecimal}
+use Rattle.model.specs.First.{firstSome}
 
 -- segment i as given, counted from 1
 abbrev pub segmentAt : Segments → ℕ → Segment
@@ -43,20 +45,10 @@ abbrev pub contains : Schedule → ℕ → ℕ → Bool
 contains sc zero k = false
 contains sc (suc i) k = ltb (lastStep sc i) k && leb k (lastStep sc (suc i))
 
--- the first of the numbers 1 to n that passes, or 0
-abbrev pub orNext : ℕ → Bool → ℕ → ℕ
-orNext zero true n = n
-orNext zero false n = 0
-orNext (suc m) passes n = suc m
-
-unfoldable pub firstOf : (ℕ → Bool) → ℕ → ℕ
-firstOf passes zero = 0
-firstOf passes (suc n) = orNext (firstOf passes n) (passes (suc n)) (suc n)
-
--- the segment that contains step k
+-- the segment that contains step k, or 0
 unfoldable pub segmentOf : Schedule → ℕ → ℕ
-unfolding firstOf
-segmentOf sc k = firstOf (λ i. contains sc i k) (sc .count)
+unfolding firstSome
+segmentOf sc k = Option·getD (firstSome (λ i. cond (contains sc i k) (some i) none) (sc .count)) 0
 
 -- dt and sqrt_dt of the segment that contains step k
 unfoldable pub dtAt : Schedule → ℕ → Float

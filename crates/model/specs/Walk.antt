@@ -10,6 +10,7 @@ use Rattle.model.specs.declared.Schedule.{Schedule}
 use Rattle.model.specs.declared.Finiteness.{Finiteness}
 use Rattle.model.specs.declared.Finiteness.the-variants.{Finite, NonFinite}
 use Rattle.model.specs.Step.{step, finiteness}
+use Rattle.model.specs.First.{firstSome}
 use Rattle.model.specs.Schedule.{dtAt, sqrtDtAt}
 
 -- What a path walks on: `draw k` is the draw of its step k.
@@ -27,15 +28,6 @@ stateAfter w zero = w .start
 stateAfter w (suc k) =
     step (w .kernel) (w .raw) (stateAfter w k) (w .draw (suc k)) (dtAt (w .schedule) (suc k))
     (sqrtDtAt (w .schedule) (suc k))
-
--- the first that there is among f 1, .. f n
-abbrev pub orElse : {A : Type 0} → Option A → Option A → Option A
-orElse none later = later
-orElse (some x) later = some x
-
-unfoldable pub firstSome : {A : Type 0} → (ℕ → Option A) → ℕ → Option A
-firstSome f zero = none
-firstSome f (suc n) = orElse (firstSome f n) (f (suc n))
 
 -- the step at which a path stops, and what is not finite there
 pub record Stop : Type 0 where
