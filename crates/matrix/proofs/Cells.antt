@@ -1,14 +1,15 @@
 -- The places of a matrix's entries. Assumes nothing.
-use mathlib.Core.Path.{_≡_, refl, sym, ap, _∙_, subst}
+use mathlib.Core.Path.{_≡_, sym, ap, _∙_, subst}
 use mathlib.Core.List.{List}
 use Prim.Native.Nat.{ℕ, zero, suc, _+_, _*_, _/_, _%_, _≤_, _<_}
-use native.Mathlib.Nat.{mul-le-mul, mul-le-mul-right, suc-mul, add-zero, add-suc, suc-add, zero-add, mod-lt, div-lt-iff-lt-mul, div-add-mod', not-suc-le-zero}
+use native.Mathlib.Nat.{mul-le-mul, mul-le-mul-right, suc-mul, mod-lt, div-lt-iff-lt-mul, div-add-mod'}
 use native.Mathlib.Omega.{arith}
 use lib.Arith.{digits-lt, digits-div, digits-mod}
 use lib.ListN.{length, getD, drop, length-drop}
 use lib.Seq.{ext-getD, length-take-le, getD-take, getD-drop}
 use lib.Ieee.{Float, nan}
-use Rattle.matrix.specs.Matrix.{entry, listed, matrix}
+use Rattle.numeric.proofs.Tables.{length-tabulate, getD-tabulate}
+use Rattle.matrix.specs.Matrix.{entry, matrix}
 use Rattle.matrix.specs.Workspace.{matrixAt}
 
 -- a cell of a matrix of dimension n is among its n × n
@@ -25,27 +26,15 @@ small h = mul-le-mul h h
 
 -- ---- a matrix by its entries
 
-length-listed : (many at : ℕ) (f : ℕ → Float) → length (listed many at f) ≡ many
-unfolding listed
-length-listed zero at f = refl
-length-listed (suc many) at f = ap suc (length-listed many (suc at) f)
-
-pub getD-listed : (many at : ℕ) (f : ℕ → Float) (k : ℕ) → k < many → getD (listed many at f) k nan ≡ f (at + k)
-unfolding listed
-getD-listed zero at f k h = absurd (not-suc-le-zero h)
-getD-listed (suc many) at f zero h = sym (ap f (add-zero at))
-getD-listed (suc many) at f (suc k) h = getD-listed many (suc at) f k (omega arith) ∙ ap f (suc-add at k ∙ sym (add-suc at k))
-
 module _ (n : ℕ) (f : ℕ → ℕ → Float) where
   pub length-matrix : length (matrix n f) ≡ n * n
   unfolding matrix
-  length-matrix = length-listed (n * n) 0 (λ k. f (k / n) (k % n))
+  length-matrix = length-tabulate (n * n) (λ k. f (k / n) (k % n))
 
   pub entry-matrix : (i j : ℕ) → i < n → j < n → entry n (matrix n f) i j ≡ f i j
   unfolding matrix
   entry-matrix i j h l =
-      getD-listed (n * n) 0 (λ k. f (k / n) (k % n)) (i * n + j) (inside h l)
-      ∙ ap (λ (k : ℕ). f (k / n) (k % n)) (zero-add (i * n + j))
+      getD-tabulate (n * n) (i * n + j) (λ k. f (k / n) (k % n)) nan (inside h l)
       ∙ ap (λ (k : ℕ). f k ((i * n + j) % n)) (digits-div i l)
       ∙ ap (f i) (digits-mod i l)
 

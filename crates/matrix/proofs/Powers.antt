@@ -3,7 +3,7 @@ use mathlib.Core.Path.{_≡_, refl, sym, ap, _∙_, subst, subst₂}
 use mathlib.Core.Bool.{Bool, true, false, not, _&&_, _||_, true≢false}
 use mathlib.Core.List.{List}
 use Prim.Native.Nat.{ℕ, suc, _+_, _-_, _*_, _^_, _≤_, _<_}
-use native.Mathlib.Nat.{zero-add, le-of-lt, le-antisymm, mul-assoc, mul-one, one-mul, mul-pos, mul-le-mul-right}
+use native.Mathlib.Nat.{le-of-lt, le-antisymm, mul-assoc, mul-one, one-mul, mul-pos, mul-le-mul-right}
 use native.Mathlib.Numerals.{add-one}
 use native.Mathlib.Decide.{decLe}
 use native.Mathlib.Omega.{arith}
@@ -15,9 +15,9 @@ use lib.Ieee.Fits.{up-pos, down-pos}
 use lib.Ieee.Order.{round-mono}
 use borrow.Author.Tests.{ltb-true, ltb-false, lt-ltb, le-ltb, eq-eqb, ne-eqb}
 use Rattle.numeric.specs.Double.{plus, times, one, finite}
-use Rattle.matrix.specs.Matrix.{listed}
+use Rattle.numeric.specs.Table.{tabulate}
+use Rattle.numeric.proofs.Tables.{getD-tabulate}
 use Rattle.matrix.specs.Exponential.{halfTwoTo, twoToMinus, firstEnough, squarings}
-use Rattle.matrix.proofs.Cells.{getD-listed}
 
 -- ---- doubling and halving are exact: computed for each of the powers that can come up
 
@@ -27,21 +27,17 @@ two = fin false 1 (pos 1)
 abbrev pub half : Float
 half = fin false 1 (negsuc 0)
 
-doubles : listed 1024 0 (λ s. times (halfTwoTo s) two) ≡ listed 1024 0 (λ s. halfTwoTo (s + 1))
-unfolding listed mul
+doubles : tabulate 1024 (λ s. times (halfTwoTo s) two) ≡ tabulate 1024 (λ s. halfTwoTo (s + 1))
+unfolding tabulate mul
 doubles = refl
 
-halves : listed 1024 0 (λ s. times (twoToMinus s) half) ≡ listed 1024 0 (λ s. twoToMinus (s + 1))
-unfolding listed mul
+halves : tabulate 1024 (λ s. times (twoToMinus s) half) ≡ tabulate 1024 (λ s. twoToMinus (s + 1))
+unfolding tabulate mul
 halves = refl
 
-from-list : (f g : ℕ → Float) (many : ℕ) → listed many 0 f ≡ listed many 0 g → (s : ℕ) → s < many → f s ≡ g s
+from-list : (f g : ℕ → Float) (many : ℕ) → tabulate many f ≡ tabulate many g → (s : ℕ) → s < many → f s ≡ g s
 from-list f g many e s h =
-    ap f (sym (zero-add s))
-    ∙ sym (getD-listed many 0 f s h)
-    ∙ ap (λ (l : List Float). getD l s nan) e
-    ∙ getD-listed many 0 g s h
-    ∙ ap g (zero-add s)
+    sym (getD-tabulate many s f nan h) ∙ ap (λ (l : List Float). getD l s nan) e ∙ getD-tabulate many s g nan h
 
 pub doubled : (s : ℕ) → s < 1024 → times (halfTwoTo s) two ≡ halfTwoTo (s + 1)
 doubled = from-list (λ s. times (halfTwoTo s) two) (λ s. halfTwoTo (s + 1)) 1024 doubles

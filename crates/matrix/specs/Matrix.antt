@@ -7,20 +7,16 @@ use lib.Dec.{eqb}
 use lib.ListN.{getD}
 use lib.Ieee.{Float, nan, eq, add, mul}
 use Rattle.numeric.specs.Double.{plus, times, one, plusZero, finite, magnitude, larger}
+use Rattle.numeric.specs.Table.{tabulate}
 
 -- the entry of row i and column j
 abbrev pub entry : ℕ → List Float → ℕ → ℕ → Float
 entry n a i j = getD a (i * n + j) nan
 
--- f at, f (at + 1), f (at + 2), ..: so many of them
-unfoldable pub listed : ℕ → ℕ → (ℕ → Float) → List Float
-listed zero at f = []
-listed (suc many) at f = f at ∷ listed many (suc at) f
-
 -- the matrix whose entry of row i and column j is f i j
 unfoldable pub matrix : ℕ → (ℕ → ℕ → Float) → List Float
-unfolding listed
-matrix n f = listed (n * n) 0 (λ k. f (k / n) (k % n))
+unfolding tabulate
+matrix n f = tabulate (n * n) (λ k. f (k / n) (k % n))
 
 -- ---- the 1-norm, by columns
 
