@@ -5,7 +5,7 @@
 //! power of four about once in five. It is never asked for the root of a subnormal number: a
 //! variance is at least c, which has at most 28 places.
 
-/// About √x, as `near_root` of crates/numeric/src/root.rt has it, with its constants.
+/// About √x, as `near_root` of crates/lanes/src/roots.rt has it, with its constants.
 #[must_use]
 #[allow(clippy::excessive_precision)]
 pub fn near_root(x: f64) -> f64 {
