@@ -14,9 +14,9 @@ use Rattle.refusal.specs.declared.Quantity.{Quantity}
 use Rattle.model.specs.declared.Finiteness.the-variants.{NonFinite}
 use Rattle.model.specs.Step.{finiteness}
 use Rattle.model.specs.Schedule.{lastStep, contains, dtAt, sqrtDtAt}
-use Rattle.model.specs.Laid.{Laid}
+use Rattle.model.specs.Inner.Laid.{Laid}
 use Rattle.model.specs.Walk.{Stop, stateAfter, stopWithin}
-use Rattle.model.specs.Admitted.{Admitted}
+use Rattle.model.specs.Inner.Admitted.{Admitted}
 use Rattle.model.proofs.First.{none-some, none-at, none-all, first-at}
 use Rattle.model.proofs.Stops.{StopsAt, stop-finite, finite-stop, stop-first}
 use Rattle.model.proofs.Containment.{contains-yes, segment-of, segment-at, segment-only}

@@ -16,7 +16,7 @@ use Rattle.model.specs.declared.State.{State}
 use Rattle.model.specs.declared.Finiteness.the-variants.{Finite, NonFinite}
 use Rattle.model.specs.Step.{step, finiteness}
 use Rattle.model.specs.Schedule.{lastStep, dtAt, sqrtDtAt}
-use Rattle.model.specs.Laid.{Laid}
+use Rattle.model.specs.Inner.Laid.{Laid}
 use Rattle.model.specs.First.{firstSome}
 use Rattle.model.specs.Walk.{stateAfter, stopWithin}
 use Rattle.model.proofs.First.{split}

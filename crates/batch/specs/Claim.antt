@@ -33,7 +33,7 @@ use Rattle.model.specs.declared.State.{State}
 use Rattle.model.specs.Step.{step, finiteness}
 use Rattle.model.specs.Schedule.{lastStep, contains}
 use Rattle.model.specs.Walk.{stateAfter}
-use Rattle.model.specs.Admitted.{Sound}
+use Rattle.model.specs.Walk.{Sound}
 use Rattle.walks.specs.declared.Observed.{Observed}
 use Rattle.walks.specs.declared.Observed.the-variants.{Spot, VixSquared}
 use Rattle.batch.specs.declared.Payoff.{Payoff}

@@ -11,7 +11,7 @@ use Rattle.numeric.specs.Table.{tabulate}
 use Rattle.model.specs.declared.Kernel.{Kernel}
 use Rattle.model.specs.declared.Schedule.{Schedule}
 use Rattle.model.specs.Schedule.{lastStep}
-use Rattle.model.specs.Laid.{Laid}
+use Rattle.model.specs.Inner.Laid.{Laid}
 use Rattle.model.specs.First.{firstSome, orElse}
 use Rattle.model.specs.Walk.{Stop, stopWithin, unlessStopped}
 use Rattle.vix.specs.declared.Vix.{Vix}

@@ -1,7 +1,7 @@
 // The path and step loops.
 ghost use mathlib.Core.Path.{_≡_};
-ghost use Rattle.model.specs.Step.{kernelInUse, stateInUse};
-ghost use Rattle.model.specs.Admitted.{Admitted};
+ghost use Rattle.model.specs.Inner.InUse.{kernelInUse, stateInUse};
+ghost use Rattle.model.specs.Inner.Admitted.{Admitted};
 ghost use Rattle.walks.specs.Batch.{batchOf};
 ghost use Rattle.batch.specs.Run.{Prepared, runAnswer, tableAfter};
 ghost use Rattle.batch.specs.RunClaim.{RunClaim};

@@ -14,7 +14,7 @@ use Rattle.doors.specs.declared.ModelDoor.{ModelDoor}
 use Rattle.model.specs.declared.RawParams.{RawParams}
 use Rattle.model.specs.declared.Schedule.{Schedule}
 use Rattle.model.specs.declared.State.{State}
-use Rattle.doors.specs.Model.{Model}
+use Rattle.model.specs.Simulation.{Model}
 use Rattle.doors.specs.Doors.{ModelReady}
 use Rattle.model.specs.Schedule.{scheduleOf}
 use Rattle.vix.specs.declared.Vix.{Vix}

@@ -6,7 +6,7 @@ use native.Mathlib.Omega.{arith}
 use lib.Ieee.{Float}
 use Rattle.refusal.specs.declared.Quantity.{Quantity}
 use Rattle.refusal.specs.declared.Refusal.the-variants as refusal
-use Rattle.model.specs.Laid.{Laid}
+use Rattle.model.specs.Inner.Laid.{Laid}
 use Rattle.model.specs.Walk.{stateAfter}
 use Rattle.walks.specs.declared.Observed.{Observed}
 use Rattle.batch.specs.declared.Payoff.{Payoff}

@@ -9,7 +9,7 @@ use Rattle.refusal.specs.declared.Outcome.{Outcome}
 use Rattle.refusal.specs.declared.Outcome.the-variants.{Passed, Refused}
 use Rattle.refusal.specs.declared.Refusal.{Refusal}
 use Rattle.refusal.specs.Questions.{firstNo, each, onceAsked}
-use Rattle.model.specs.Laid.{Laid}
+use Rattle.model.specs.Inner.Laid.{Laid}
 use Rattle.walks.specs.declared.Observed.{Observed}
 use Rattle.walks.specs.declared.Observed.the-variants.{Spot, VixSquared}
 use Rattle.batch.specs.declared.Payoff.{Payoff}

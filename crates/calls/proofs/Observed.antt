@@ -7,7 +7,7 @@ use native.Mathlib.Omega.{arith}
 use lib.Ieee.{Float}
 use Rattle.model.specs.declared.Finiteness.{Finiteness}
 use Rattle.model.specs.declared.Finiteness.the-variants.{Finite, NonFinite}
-use Rattle.model.specs.Laid.{Laid}
+use Rattle.model.specs.Inner.Laid.{Laid}
 use Rattle.batch.specs.declared.Run.{Run}
 use Rattle.batch.specs.declared.Run.the-variants as run
 use Rattle.walks.specs.Batch.{Batch, observation}

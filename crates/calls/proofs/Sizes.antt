@@ -16,7 +16,7 @@ use Rattle.refusal.specs.Questions.{Question, asked, firstNo, further}
 use Rattle.refusal.proofs.Laws.{in-turn, passed-head, passed-tail}
 use Rattle.model.specs.declared.Kernel.{Kernel}
 use Rattle.model.specs.declared.Schedule.{Schedule}
-use Rattle.model.specs.Laid.{Laid}
+use Rattle.model.specs.Inner.Laid.{Laid}
 use Rattle.vix.specs.declared.Vix.{Vix}
 use Rattle.walks.specs.Batch.{drawsNeeded}
 use Rattle.batch.specs.Run.{Prepared}

@@ -19,15 +19,15 @@ use Rattle.model.specs.declared.State.{State}
 use Rattle.model.specs.declared.Schedule.{Schedule}
 use Rattle.doors.specs.declared.ModelDoor.{ModelDoor}
 use Rattle.model.specs.declared.Traced.{Traced}
-use Rattle.model.specs.Step.{stateInUse}
+use Rattle.model.specs.Inner.InUse.{stateInUse}
 use Rattle.model.specs.Kernel.{kernelOf}
 use Rattle.model.specs.Parameters.{rawParams, startOf}
-use Rattle.model.specs.Schedule.{scheduleInUse}
-use Rattle.doors.specs.Model.{Model}
+use Rattle.model.specs.Inner.InUse.{scheduleInUse}
+use Rattle.model.specs.Simulation.{Model}
 use Rattle.doors.specs.Questions.{modelQuestions}
 use Rattle.doors.specs.Doors.{ModelReady, ModelPrepared}
 use Rattle.model.specs.Walk.{Walk}
-use Rattle.model.specs.Trace.{Tables, Sized, walkOf, traceAnswer, tablesAfter}
+use Rattle.trace.specs.Walked.{Tables, Sized, walkOf, traceAnswer, tablesAfter}
 use Rattle.calls.specs.declared.Trace.{Trace}
 use Rattle.calls.specs.declared.Trace.the-variants as trace
 use Rattle.calls.specs.Trace.{lengthsRight, traceQuestions, traceWalk, afterWalk, traceCall, traceTables}

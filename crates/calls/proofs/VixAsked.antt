@@ -14,7 +14,7 @@ use Rattle.refusal.proofs.Laws.{append, then, stops, earlier-passed}
 use Rattle.model.specs.declared.Kernel.{Kernel}
 use Rattle.doors.specs.declared.ModelDoor.{ModelDoor}
 use Rattle.model.specs.declared.RawParams.{RawParams}
-use Rattle.model.specs.Step.{kernelInUse}
+use Rattle.model.specs.Inner.InUse.{kernelInUse}
 use Rattle.doors.specs.Questions.{modelQuestions}
 use Rattle.doors.specs.Doors.{ModelReady, ModelPrepared}
 use Rattle.vix.specs.declared.Vix.{Vix}

@@ -23,7 +23,7 @@ use Rattle.doors.specs.declared.ParamsDoor.{ParamsDoor}
 use Rattle.doors.specs.Questions.{kernelQuestions, paramsQuestions}
 use Rattle.model.specs.Kernel.{kernelOf}
 use Rattle.model.specs.Parameters.{rawParams, rawFactors}
-use Rattle.model.specs.Step.{kernelInUse}
+use Rattle.model.specs.Inner.InUse.{kernelInUse}
 use Rattle.doors.specs.Doors.{KernelReady, KernelPrepared, ParamsPrepared}
 use Rattle.vix.specs.declared.Vix.{Vix}
 use Rattle.vix.specs.declared.VixDoor.{VixDoor}

@@ -17,7 +17,7 @@ use Rattle.model.specs.Kernel.{kernelOf}
 use Rattle.model.specs.Parameters.{rawParams, startOf}
 use Rattle.doors.specs.Questions.{scaleQuestion}
 use Rattle.model.specs.Schedule.{scheduleOf}
-use Rattle.doors.specs.Model.{Model}
+use Rattle.model.specs.Simulation.{Model}
 use Rattle.batch.specs.declared.Style.{Style}
 use Rattle.batch.specs.declared.Style.the-variants.{Call, Put}
 use Rattle.walks.specs.declared.Observed.{Observed}

@@ -12,10 +12,10 @@ use Rattle.model.specs.declared.Traced.the-variants as traced
 use Rattle.model.specs.Kernel.{kernelOf}
 use Rattle.model.specs.Parameters.{rawParams, startOf}
 use Rattle.model.specs.Schedule.{scheduleOf}
-use Rattle.doors.specs.Model.{Model}
+use Rattle.model.specs.Simulation.{Model}
 use Rattle.doors.specs.Questions.{modelQuestions}
 use Rattle.model.specs.Walk.{Walk}
-use Rattle.model.specs.Trace.{Tables, tablesAfter, traceAnswer}
+use Rattle.trace.specs.Walked.{Tables, tablesAfter, traceAnswer}
 use Rattle.calls.specs.declared.Trace.{Trace}
 use Rattle.calls.specs.declared.Trace.the-variants as trace
 

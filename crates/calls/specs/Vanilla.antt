@@ -10,7 +10,7 @@ use Rattle.decimal.specs.Decimal.{value}
 use Rattle.refusal.specs.declared.Outcome.the-variants.{Passed}
 use Rattle.refusal.specs.Questions.{Question, firstNo, onceAsked, writtenOnceAsked}
 use Rattle.model.specs.Schedule.{scheduleOf}
-use Rattle.doors.specs.Model.{Model}
+use Rattle.model.specs.Simulation.{Model}
 use Rattle.doors.specs.Questions.{modelQuestions}
 use Rattle.walks.specs.declared.Observed.the-variants.{Spot}
 use Rattle.batch.specs.declared.Payoff.{Payoff}

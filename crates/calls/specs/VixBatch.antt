@@ -14,7 +14,7 @@ use Rattle.model.specs.declared.RawParams.{RawParams}
 use Rattle.model.specs.Kernel.{kernelOf}
 use Rattle.model.specs.Parameters.{rawParams}
 use Rattle.model.specs.Schedule.{scheduleOf}
-use Rattle.doors.specs.Model.{Model}
+use Rattle.model.specs.Simulation.{Model}
 use Rattle.doors.specs.Questions.{modelQuestions}
 use Rattle.vix.specs.declared.Vix.{Vix}
 use Rattle.vix.specs.Form.{rawSquared}

@@ -1,8 +1,8 @@
 // The trace call: path 1 alone, over a schedule and its draws.
 ghost use mathlib.Core.Path.{_≡_};
 ghost use Prim.Native.Nat.{_≤_};
-ghost use Rattle.doors.specs.Model.{given};
-ghost use Rattle.model.specs.Trace.{tables};
+ghost use Rattle.model.specs.Simulation.{given};
+ghost use Rattle.trace.specs.Walked.{tables};
 ghost use Rattle.calls.specs.Trace.{lengthsRight, traceCall, traceTables};
 use crate::Trace;
 use model::Params;

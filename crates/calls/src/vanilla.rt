@@ -1,6 +1,6 @@
 // Pricing a vanilla batch, mirrored or not.
 ghost use mathlib.Core.Path.{_≡_};
-ghost use Rattle.doors.specs.Model.{given};
+ghost use Rattle.model.specs.Simulation.{given};
 ghost use Rattle.calls.specs.Batches.{answerOf};
 ghost use Rattle.calls.specs.Vanilla.{vanillaInputs, vanillaCall, vanillaTable, VanillaClaim};
 use crate::Priced;

@@ -2,7 +2,7 @@
 ghost use mathlib.Core.Path.{_≡_};
 ghost use lib.ListN.{length};
 ghost use Rattle.refusal.specs.Questions.{firstNo, KeptUnlessPassed};
-ghost use Rattle.doors.specs.Model.{given};
+ghost use Rattle.model.specs.Simulation.{given};
 ghost use Rattle.calls.specs.Batches.{answerOf};
 ghost use Rattle.calls.specs.VixBatch.{vixBatchInputs, payoffFor, payoffQuestions};
 ghost use Rattle.calls.specs.VixBatch.{vixBatchCall, vixBatchTable, VixBatchClaim};

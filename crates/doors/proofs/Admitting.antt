@@ -26,8 +26,9 @@ use Rattle.model.specs.declared.RawParams.{RawParams}
 use Rattle.model.specs.declared.State.{State}
 use Rattle.model.specs.Parameters.{zeroDecimal, rawParams, rawFactors, startOf}
 use Rattle.doors.specs.Questions.{rangeQuestions, scaleQuestions, paramsQuestions}
-use Rattle.model.specs.Step.{read, kernelInUse, stateInUse}
-use Rattle.model.specs.Admitted.{Converted, ParamsReady, Admitted}
+use Rattle.model.specs.Step.{read}
+use Rattle.model.specs.Inner.InUse.{kernelInUse, stateInUse}
+use Rattle.model.specs.Inner.Admitted.{Converted, ParamsReady, Admitted}
 use Rattle.doors.specs.Doors.{KernelReady, ParamsPrepared}
 
 -- ---- one Decimal

@@ -21,9 +21,10 @@ use Rattle.refusal.proofs.Laws.{each-none, each-more, each-stops, each-passed, 
 use Rattle.model.specs.declared.Schedule.{Schedule}
 use Rattle.doors.specs.declared.ScheduleDoor.{ScheduleDoor}
 use Rattle.model.specs.declared.Segments.{Segments}
-use Rattle.model.specs.Schedule.{segmentAt, stepsThrough, scheduleOf, scheduleInUse, lastStep}
+use Rattle.model.specs.Schedule.{segmentAt, stepsThrough, scheduleOf, lastStep}
+use Rattle.model.specs.Inner.InUse.{scheduleInUse}
 use Rattle.doors.specs.Questions.{questionsOf, segmentQuestions, scheduleQuestions}
-use Rattle.model.specs.Laid.{Laid}
+use Rattle.model.specs.Inner.Laid.{Laid}
 use Rattle.doors.specs.Doors.{SchedulePrepared}
 
 module _ (g : Segments) where

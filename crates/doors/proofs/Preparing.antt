@@ -14,7 +14,7 @@ use Rattle.doors.specs.declared.ScheduleDoor.{ScheduleDoor}
 use Rattle.doors.specs.Questions.{kernelQuestions, paramsQuestions, scheduleQuestions, modelQuestions}
 use Rattle.model.specs.Parameters.{startOf}
 use Rattle.doors.specs.Doors.{KernelPrepared, ParamsPrepared, SchedulePrepared, ModelPrepared}
-use Rattle.doors.specs.Model.{Model}
+use Rattle.model.specs.Simulation.{Model}
 use Rattle.doors.proofs.Admitting.{admitted}
 
 module _ (m : Model) (k : KernelDoor) (p : ParamsDoor) (g : ScheduleDoor) where

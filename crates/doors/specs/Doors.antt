@@ -11,18 +11,19 @@ use Rattle.doors.specs.declared.KernelDoor.{KernelDoor}
 use Rattle.model.specs.declared.Kernel.{Kernel}
 use Rattle.model.specs.Kernel.{inRange, kernelOf}
 use Rattle.doors.specs.Questions.{kernelQuestions, paramsQuestions, scheduleQuestions, modelQuestions}
-use Rattle.doors.specs.Model.{Model}
+use Rattle.model.specs.Simulation.{Model}
 use Rattle.doors.specs.declared.ModelDoor.{ModelDoor}
 use Rattle.model.specs.declared.Params.{Params}
 use Rattle.doors.specs.declared.ParamsDoor.{ParamsDoor}
 use Rattle.model.specs.declared.Schedule.{Schedule}
 use Rattle.doors.specs.declared.ScheduleDoor.{ScheduleDoor}
 use Rattle.model.specs.declared.Segments.{Segments}
-use Rattle.model.specs.Laid.{Laid}
-use Rattle.model.specs.Admitted.{ParamsReady, Admitted}
-use Rattle.model.specs.Schedule.{scheduleOf, scheduleInUse}
+use Rattle.model.specs.Inner.Laid.{Laid}
+use Rattle.model.specs.Inner.Admitted.{ParamsReady, Admitted}
+use Rattle.model.specs.Schedule.{scheduleOf}
+use Rattle.model.specs.Inner.InUse.{scheduleInUse}
 use Rattle.model.specs.Parameters.{rawParams, startOf}
-use Rattle.model.specs.Step.{kernelInUse, stateInUse}
+use Rattle.model.specs.Inner.InUse.{kernelInUse, stateInUse}
 
 -- the tables in use are those given, 1 to 10 of each, every entry in range
 pub record KernelReady (weights discounts : List Float) (k : Kernel) : Type 0 where

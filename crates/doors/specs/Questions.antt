@@ -15,7 +15,7 @@ use Rattle.model.specs.declared.Segments.{Segments}
 use Rattle.model.specs.Kernel.{inRange}
 use Rattle.model.specs.Parameters.{zeroDecimal}
 use Rattle.model.specs.Schedule.{segmentAt, stepsThrough}
-use Rattle.doors.specs.Model.{Model}
+use Rattle.model.specs.Simulation.{Model}
 
 -- "1 Has each nonzero Decimal scale ≤ 28?"
 abbrev pub scaleQuestion : Decimal → Question

@@ -1,7 +1,7 @@
 // The doors of a model: what is asked of its inputs, in the order of document 01, and what is prepared
 // of them.
 ghost use Rattle.doors.specs.Doors.{ModelPrepared};
-ghost use Rattle.doors.specs.Model.{given};
+ghost use Rattle.model.specs.Simulation.{given};
 use refusal::Outcome;
 
 pub mod kernel;

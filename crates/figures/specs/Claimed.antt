@@ -9,8 +9,8 @@ use lib.Ieee.{nan, fits, le, round, ofBits}
 use Rattle.numeric.specs.Double.{plusZero, magnitude}
 use Rattle.decimal.specs.declared.Decimal.{Decimal}
 use Rattle.decimal.specs.Decimal.{value}
-use Rattle.model.specs.Admitted.{Converted, Admitted}
-use Rattle.model.specs.Laid.{Laid}
+use Rattle.model.specs.Inner.Admitted.{Converted, Admitted}
+use Rattle.model.specs.Inner.Laid.{Laid}
 use Rattle.model.specs.Kernel.{inRange}
 use Rattle.model.specs.Parameters.{rawParams, startOf}
 use Rattle.model.specs.Schedule.{lastStep, scheduleOf}

@@ -9,7 +9,7 @@ use Rattle.model.specs.declared.Kernel.{Kernel}
 use Rattle.model.specs.declared.Params.{Params}
 use Rattle.model.specs.declared.Segments.{Segments}
 use Rattle.model.specs.Kernel.{kernelOf}
-use Rattle.doors.specs.Model.{Model, given}
+use Rattle.model.specs.Simulation.{Model, given}
 use Rattle.calls.specs.Vanilla.{VanillaInputs, vanillaInputs}
 
 -- the double of these bits

@@ -14,7 +14,7 @@ use Rattle.refusal.specs.Questions.{firstNo, each}
 use Rattle.model.specs.Kernel.{inRange}
 use Rattle.doors.specs.Questions.{rangeQuestions, scaleQuestions}
 use Rattle.model.specs.Schedule.{stepsThrough}
-use Rattle.model.specs.Trace.{tables, tableAfter}
+use Rattle.trace.specs.Walked.{tables, tableAfter}
 use Rattle.matrix.specs.Call.{exponentialCall, exponentialTable}
 use Rattle.refusal.specs.Refusal.{noPlace}
 use Rattle.terminal.specs.Answers.{conversion, traced, vanillaAnswer}

@@ -11,10 +11,11 @@ use lib.Ieee.{Float, nan}
 use lib.ListN.{getD, length}
 use Rattle.lanes.specs.declared.Lanes.{Lanes}
 use Rattle.model.specs.declared.State.{State}
-use Rattle.model.specs.Step.{step, finiteness, stateInUse}
+use Rattle.model.specs.Step.{step, finiteness}
+use Rattle.model.specs.Inner.InUse.{stateInUse}
 use Rattle.numeric.proofs.Tables.{take-is-tabulate}
 use Rattle.model.specs.Schedule.{lastStep, dtAt, sqrtDtAt}
-use Rattle.model.specs.Laid.{Laid}
+use Rattle.model.specs.Inner.Laid.{Laid}
 use Rattle.lanes.specs.Inner.Lanes.{laneOf, AllAt, Spread, FiniteLane}
 use Rattle.model.specs.Walk.{stateAfter}
 use Rattle.model.proofs.First.{split}

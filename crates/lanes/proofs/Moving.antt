@@ -17,9 +17,10 @@ use Rattle.lanes.specs.declared.Lanes.{Lanes}
 use Rattle.model.specs.declared.Rates.{Rates}
 use Rattle.model.specs.declared.RawParams.{RawParams}
 use Rattle.model.specs.declared.State.{State}
-use Rattle.model.specs.Rates.{RatesOf}
+use Rattle.model.specs.Inner.Rates.{RatesOf}
 use Rattle.lanes.specs.Inner.Lanes.{laneFactors, laneOf, RowMoved, LanesMoved, LanesStepped}
-use Rattle.model.specs.Step.{weightedSum, varianceAt, read, moved, step, kernelInUse}
+use Rattle.model.specs.Step.{weightedSum, varianceAt, read, moved, step}
+use Rattle.model.specs.Inner.InUse.{kernelInUse}
 
 -- a sum over the first k places depends on these alone
 pub sum-same : (weights f g : List Float) (k : ℕ) → ((i : ℕ) → i < k → getD f i nan ≡ getD g i nan) → weightedSum weights f k ≡ weightedSum weights g k

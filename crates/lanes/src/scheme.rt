@@ -2,7 +2,7 @@
 ghost use mathlib.Core.Path.{_≡_};
 ghost use Prim.Native.Nat.{_≤_};
 ghost use lib.ListN.{length};
-ghost use Rattle.model.specs.Rates.{RatesOf};
+ghost use Rattle.model.specs.Inner.Rates.{RatesOf};
 ghost use Rattle.lanes.specs.Inner.Lanes.{LanesMoved, LanesStepped, StepTried};
 use crate::Lanes;
 use crate::Tried;

@@ -12,8 +12,9 @@ use lib.ListN.{getD}
 use lib.Seq.{getD-take}
 use lib.Ieee.{nan}
 use Rattle.model.specs.declared.Schedule.{Schedule}
-use Rattle.model.specs.Schedule.{lastStep, contains, segmentOf, dtAt, sqrtDtAt, scheduleInUse}
-use Rattle.model.specs.Laid.{Laid}
+use Rattle.model.specs.Schedule.{lastStep, contains, segmentOf, dtAt, sqrtDtAt}
+use Rattle.model.specs.Inner.InUse.{scheduleInUse}
+use Rattle.model.specs.Inner.Laid.{Laid}
 use Rattle.model.proofs.First.{split, at-first}
 
 -- ---- g segments have ended by step k, and the next, if there is one, has not

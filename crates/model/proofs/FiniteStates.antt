@@ -13,14 +13,13 @@ use lib.Ieee.{Float, nan, inf, fin, binary64, fits, le, up, down}
 use Rattle.numeric.specs.Double.{less, times, magnitude, finite}
 use Rattle.refusal.specs.declared.Quantity.{Quantity}
 use Rattle.refusal.specs.declared.Quantity.the-variants.{Spot, Z, Variance}
-use Rattle.model.specs.declared.Kernel.{Kernel}
-use Rattle.model.specs.declared.RawParams.{RawParams}
 use Rattle.model.specs.declared.State.{State}
+use Rattle.model.specs.declared.Simulation.{Simulation}
 use Rattle.model.specs.declared.Finiteness.the-variants.{Finite, NonFinite}
 use Rattle.model.specs.Kernel.{inRange}
 use Rattle.model.specs.Step.{weightedSum, varianceAt, read, step, firstOfThree, finiteness}
-use Rattle.model.specs.Walk.{Walk, stateAfter}
-use Rattle.model.specs.Admitted.{Converted, Admitted, Sound}
+use Rattle.model.specs.Walk.{Walk, stateAfter, Sound}
+use Rattle.model.specs.Inner.Admitted.{Converted, Admitted}
 use Rattle.model.proofs.First.{split}
 use Rattle.numeric.proofs.Finite.{never, sign, plus-finite, times-finite}
 use Rattle.numeric.proofs.Order.{le→ordered}
@@ -87,11 +86,37 @@ no-sign nan f h = refl
 no-sign (inf s) f h = never refl f
 no-sign (fin s m e) f h = ap sign (sym h)
 
--- ---- a state that is read off its factors
-module _ (k : Kernel) (p : RawParams) (a-unsigned : sign (p .a) ≡ false) (c-double : fits binary64 (p .c) ≡ true) where
-  read-sound : (spot : Float) (factors : List Float) → finiteness (read k p spot factors) ≡ Finite → Sound k p (read k p spot factors)
+-- ---- the states of an admitted simulation
+module _ (m : Simulation) (ok : Admitted m) where
+  sum-within : (n : ℕ) → n ≤ m .kernel .n → Within (186 + n) (weightedSum (m .kernel .weights) (m .start .factors) n)
+  unfolding weightedSum
+  sum-within zero h = zero-within 186 true
+  sum-within (suc n) h =
+      dot-within {i = 90} {j = 96} n (sum-within n (omega arith)) (weight-within _ (ok .weight n h))
+      (converted-within (ok .params .factor n h)) (omega (arith, ok .few))
+
+  pub start-finite : finiteness (m .start) ≡ Finite
+  unfolding read varianceAt
+  start-finite =
+      let p = m .raw in
+      let sum : Within 196 (weightedSum (m .kernel .weights) (m .start .factors) (m .kernel .n)) =
+      within-mono (sum-within (m .kernel .n) (omega arith)) (omega (arith, ok .few)) in
+      let shifted = minus-within sum (within-mono (converted-within (ok .params .b)) (omega arith)) (omega arith) in
+      let variance =
+      variance-within (converted-within (ok .params .a)) shifted (converted-within (ok .params .c)) (omega arith) in
+      ap finiteness (ok .start-read)
+      ∙ parts-finite _ (converted-within (ok .params .spot) .is-finite) (sum .is-finite) (variance .is-finite)
+
+  a-sign : sign (m .raw .a) ≡ false
+  a-sign = no-sign (m .raw .a) (converted-within (ok .params .a) .is-finite) (ok .params .a-not-negative)
+
+  -- a state that is read off its factors
+  read-sound : (spot : Float) (factors : List Float) → finiteness (read (m .kernel) (m .raw) spot factors) ≡ Finite
+      → Sound m (read (m .kernel) (m .raw) spot factors)
   unfolding read varianceAt
   read-sound spot factors f =
+      let k = m .kernel in
+      let p = m .raw in
       let parts = finite-parts (read k p spot factors) f in
       let z = weightedSum (k .weights) factors (k .n) in
       record {
@@ -99,38 +124,15 @@ module _ (k : Kernel) (p : RawParams) (a-unsigned : sign (p .a) ≡ false) (c-do
         z = parts .1;
         variance = parts .2;
         factor = sum-factors (k .weights) factors (k .n) (parts .1);
-        at-least-c = variance-ge (p .a) (less z (p .b)) (p .c) a-unsigned c-double (parts .2);
+        at-least-c = variance-ge (p .a) (less z (p .b)) (p .c) a-sign (ok .params .c .double) (parts .2);
       }
 
--- ---- the walks of an admitted model
-module _ (w : Walk) (ok : Admitted (w .kernel) (w .raw) (w .start)) where
-  sum-within : (n : ℕ) → n ≤ w .kernel .n → Within (186 + n) (weightedSum (w .kernel .weights) (w .start .factors) n)
-  unfolding weightedSum
-  sum-within zero h = zero-within 186 true
-  sum-within (suc n) h =
-      dot-within {i = 90} {j = 96} n (sum-within n (omega arith)) (weight-within _ (ok .weight n h))
-      (converted-within (ok .params .factor n h)) (omega (arith, ok .few))
-
-  pub start-finite : finiteness (w .start) ≡ Finite
-  unfolding read varianceAt
-  start-finite =
-      let p = w .raw in
-      let sum : Within 196 (weightedSum (w .kernel .weights) (w .start .factors) (w .kernel .n)) =
-      within-mono (sum-within (w .kernel .n) (omega arith)) (omega (arith, ok .few)) in
-      let shifted = minus-within sum (within-mono (converted-within (ok .params .b)) (omega arith)) (omega arith) in
-      let variance =
-      variance-within (converted-within (ok .params .a)) shifted (converted-within (ok .params .c)) (omega arith) in
-      ap finiteness (ok .start-read)
-      ∙ parts-finite _ (converted-within (ok .params .spot) .is-finite) (sum .is-finite) (variance .is-finite)
-
-  a-sign : sign (w .raw .a) ≡ false
-  a-sign = no-sign (w .raw .a) (converted-within (ok .params .a) .is-finite) (ok .params .a-not-negative)
-
-  -- every state up to which each step is finite, the start included
-  pub walk-sound : (k : ℕ) → ((j : ℕ) → 1 ≤ j → j ≤ k → finiteness (stateAfter w j) ≡ Finite) → Sound (w .kernel) (w .raw) (stateAfter w k)
+-- every state of a walk up to which each step is finite, the start included
+module _ (w : Walk) (ok : Admitted (w .simulation)) where
+  pub walk-sound : (k : ℕ) → ((j : ℕ) → 1 ≤ j → j ≤ k → finiteness (stateAfter w j) ≡ Finite)
+      → Sound (w .simulation) (stateAfter w k)
   unfolding stateAfter step
   walk-sound zero h =
-      subst (λ (s : State). Sound (w .kernel) (w .raw) s) (sym (ok .start-read))
-      (read-sound (w .kernel) (w .raw) a-sign (ok .params .c .double) _ _ (ap finiteness (sym (ok .start-read)) ∙ start-finite))
-  walk-sound (suc k) h =
-      read-sound (w .kernel) (w .raw) a-sign (ok .params .c .double) _ _ (h (suc k) (omega arith) (omega arith))
+      subst (λ (s : State). Sound (w .simulation) s) (sym (ok .start-read))
+      (read-sound (w .simulation) ok _ _ (ap finiteness (sym (ok .start-read)) ∙ start-finite (w .simulation) ok))
+  walk-sound (suc k) h = read-sound (w .simulation) ok _ _ (h (suc k) (omega arith) (omega arith))

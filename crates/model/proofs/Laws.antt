@@ -13,8 +13,9 @@ use Rattle.model.specs.declared.Kernel.{Kernel}
 use Rattle.model.specs.declared.RawParams.{RawParams}
 use Rattle.model.specs.declared.State.{State}
 use Rattle.model.specs.declared.Rates.{Rates}
-use Rattle.model.specs.Step.{weightedSum, varianceAt, read, moved, step, kernelInUse, stateInUse}
-use Rattle.model.specs.Rates.{RatesOf, Moved}
+use Rattle.model.specs.Step.{weightedSum, varianceAt, read, moved, step}
+use Rattle.model.specs.Inner.InUse.{kernelInUse, stateInUse}
+use Rattle.model.specs.Inner.Rates.{RatesOf, Moved}
 
 -- a sum over the first k places is the same over the first n of the tables
 pub sum-take : (weights factors : List Float) (n k : ℕ) → k ≤ n → weightedSum (take n weights) (take n factors) k ≡ weightedSum weights factors k

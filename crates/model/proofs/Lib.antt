@@ -3,5 +3,3 @@ pub mod First
 pub mod Stops
 pub mod FiniteStates
 pub mod Containment
-pub mod Points
-pub mod Tracing

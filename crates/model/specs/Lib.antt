@@ -3,9 +3,6 @@ pub mod Parameters
 pub mod First
 pub mod Schedule
 pub mod Step
+pub mod Simulation
 pub mod Walk
-pub mod Rates
-pub mod Laid
-pub mod Admitted
-pub mod Trace
-pub mod Samples
+pub mod Inner

@@ -3,7 +3,7 @@ use mathlib.Core.Bool.{Bool, false, cond, _&&_}
 use mathlib.Core.Option.{none, some, Option·getD}
 use Prim.Native.Nat.{ℕ, zero, suc, pred, _+_}
 use lib.Dec.{leb, ltb}
-use lib.ListN.{getD, take}
+use lib.ListN.{getD}
 use lib.Ieee.{Float, nan, binary64}
 use Rattle.numeric.specs.Root.{root}
 use Rattle.numeric.specs.Table.{tabulate}
@@ -58,14 +58,3 @@ dtAt sc k = getD (sc .dt) (pred (segmentOf sc k)) nan
 unfoldable pub sqrtDtAt : Schedule → ℕ → Float
 unfolding segmentOf
 sqrtDtAt sc k = getD (sc .«sqrt_dt») (pred (segmentOf sc k)) nan
-
--- The code keeps a schedule in arrays of 64, of which the first `count` are in use.
-abbrev pub scheduleInUse : Schedule → Schedule
-scheduleInUse sc =
-    record {
-      count = sc .count;
-      total = sc .total;
-      dt = take (sc .count) (sc .dt);
-      «sqrt_dt» = take (sc .count) (sc .«sqrt_dt»);
-      last = take (sc .count) (sc .last);
-    }

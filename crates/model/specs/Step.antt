@@ -2,7 +2,7 @@
 use mathlib.Core.Bool.{Bool, true, false}
 use mathlib.Core.List.{List}
 use Prim.Native.Nat.{ℕ, zero, suc}
-use lib.ListN.{getD, take}
+use lib.ListN.{getD}
 use lib.Ieee.{Float, nan, binary64, add, sub, mul, div, neg}
 use Rattle.numeric.specs.Double.{plus, less, times, over, one, minusZero, finite}
 use Rattle.numeric.specs.Root.{root}
@@ -58,10 +58,3 @@ firstOfThree true true true = Finite
 
 unfoldable pub finiteness : State → Finiteness
 finiteness s = firstOfThree (finite (s .spot)) (finite (s .z)) (finite (s .variance))
-
--- The code keeps tables and factors in arrays of ten, of which the first n are in use.
-abbrev pub kernelInUse : Kernel → Kernel
-kernelInUse k = record { n = k .n; weights = take (k .n) (k .weights); discounts = take (k .n) (k .discounts) }
-
-abbrev pub stateInUse : ℕ → State → State
-stateInUse n s = record { spot = s .spot; z = s .z; variance = s .variance; factors = take n (s .factors) }

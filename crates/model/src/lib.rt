@@ -4,7 +4,6 @@ use refusal::Quantity;
 
 pub mod draws;
 pub mod scheme;
-pub mod trace;
 
 // The tables of n weights and n discounts, in the first n places.
 pub struct Kernel {
@@ -79,8 +78,10 @@ pub struct Rates {
     pub divisors: [f64; 10],
 }
 
-// What a trace answers: its steps are all finite, or the first that is not and what of it.
-pub enum Traced {
-    Done { steps: u64 },
-    NonFinite { step: u64, quantity: Quantity },
+// What every path shares: kernel, parameters, start and schedule.
+pub struct Simulation {
+    pub kernel: Kernel,
+    pub raw: RawParams,
+    pub start: State,
+    pub schedule: Schedule,
 }

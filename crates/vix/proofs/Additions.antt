@@ -13,7 +13,7 @@ use lib.Ieee.{Float, nan, neg}
 use Rattle.numeric.specs.Double.{plus, times, one, plusZero}
 use Rattle.model.specs.declared.Kernel.{Kernel}
 use Rattle.model.specs.declared.RawParams.{RawParams}
-use Rattle.model.specs.Step.{kernelInUse}
+use Rattle.model.specs.Inner.InUse.{kernelInUse}
 use Rattle.vix.specs.Generator.{dimension, pairAt, weight, discount, two, meanCoefficient, pairCoefficient, pull, meanEntry, meanRow, driftEntry, varianceRow, pairRow}
 use Rattle.numeric.proofs.Tables.{take-is-tabulate}
 use Rattle.vix.proofs.Places.{dimension-most, integral-most, pair-inside}

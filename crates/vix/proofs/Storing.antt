@@ -12,7 +12,7 @@ use Rattle.numeric.specs.Double.{times, plusZero}
 use Rattle.numeric.proofs.Tables.{length-tabulate}
 use Rattle.model.specs.declared.Kernel.{Kernel}
 use Rattle.model.specs.declared.RawParams.{RawParams}
-use Rattle.model.specs.Step.{kernelInUse}
+use Rattle.model.specs.Inner.InUse.{kernelInUse}
 use Rattle.matrix.specs.Matrix.{scaled}
 use Rattle.matrix.proofs.Lists.{length-scaled}
 use Rattle.vix.specs.Appended.{Appended}

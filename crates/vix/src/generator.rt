@@ -3,7 +3,7 @@
 ghost use mathlib.Core.Path.{_≡_};
 ghost use Prim.Native.Nat.{_+_, _-_, _*_, _≤_, _<_};
 ghost use lib.ListN.{length, take};
-ghost use Rattle.model.specs.Step.{kernelInUse};
+ghost use Rattle.model.specs.Inner.InUse.{kernelInUse};
 ghost use Rattle.matrix.specs.Matrix.{scaled};
 ghost use Rattle.vix.specs.Appended.{Appended};
 ghost use Rattle.vix.specs.Generator.{dimension, pairAt, joined, pairsOfRow, pairsOfRows, varianceRow, meanRow, pairRow, generator};

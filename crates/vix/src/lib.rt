@@ -4,7 +4,7 @@ ghost use Prim.Native.Nat.{_+_, _*_, _-_, _≤_, _<_};
 ghost use lib.ListN.{length, take};
 ghost use Rattle.vix.specs.Form.{pairsBefore, linearValue, rowValue, rawSquared, vixInUse, noForm};
 ghost use Rattle.vix.specs.Generator.{dimension};
-ghost use Rattle.model.specs.Step.{kernelInUse};
+ghost use Rattle.model.specs.Inner.InUse.{kernelInUse};
 ghost use Rattle.vix.specs.Build.{VixPrepared};
 ghost use Rattle.vix.specs.Evaluation.{evaluation};
 

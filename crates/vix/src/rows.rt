@@ -5,7 +5,7 @@ ghost use Prim.Native.Nat.{ℕ, _+_, _-_, _≤_, _<_};
 ghost use lib.Ieee.{nan};
 ghost use lib.ListN.{length, getD, take, set};
 ghost use Rattle.numeric.specs.Double.{plus, plusZero};
-ghost use Rattle.model.specs.Step.{kernelInUse};
+ghost use Rattle.model.specs.Inner.InUse.{kernelInUse};
 ghost use Rattle.vix.specs.Appended.{Appended};
 ghost use Rattle.vix.specs.Generator.{dimension, pairAt, joined, pairsOfRow, meanCoefficient, pairCoefficient, constantCoefficient, InOrder, varianceRow, meanRow, driftEntry, pairRow};
 use crate::state;

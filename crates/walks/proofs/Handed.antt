@@ -11,10 +11,12 @@ use Rattle.model.specs.declared.RawParams.{RawParams}
 use Rattle.model.specs.declared.Rates.{Rates}
 use Rattle.model.specs.declared.Schedule.{Schedule}
 use Rattle.model.specs.declared.State.{State}
-use Rattle.model.specs.Laid.{Laid}
-use Rattle.model.specs.Rates.{RatesOf}
-use Rattle.model.specs.Schedule.{dtAt, sqrtDtAt, scheduleInUse}
-use Rattle.model.specs.Step.{step, finiteness, stateInUse}
+use Rattle.model.specs.Inner.Laid.{Laid}
+use Rattle.model.specs.Inner.Rates.{RatesOf}
+use Rattle.model.specs.Schedule.{dtAt, sqrtDtAt}
+use Rattle.model.specs.Inner.InUse.{scheduleInUse}
+use Rattle.model.specs.Step.{step, finiteness}
+use Rattle.model.specs.Inner.InUse.{stateInUse}
 use Rattle.model.proofs.Containment.{Reached, reached-in-use, dt-reached, sqrt-dt-reached}
 use Rattle.vix.specs.declared.Vix.{Vix}
 use Rattle.vix.specs.Form.{vixInUse}

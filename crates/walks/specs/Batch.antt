@@ -10,8 +10,9 @@ use Rattle.model.specs.declared.Kernel.{Kernel}
 use Rattle.model.specs.declared.RawParams.{RawParams}
 use Rattle.model.specs.declared.State.{State}
 use Rattle.model.specs.declared.Schedule.{Schedule}
-use Rattle.model.specs.Step.{kernelInUse, stateInUse}
-use Rattle.model.specs.Schedule.{lastStep, scheduleInUse}
+use Rattle.model.specs.Inner.InUse.{kernelInUse, stateInUse}
+use Rattle.model.specs.Schedule.{lastStep}
+use Rattle.model.specs.Inner.InUse.{scheduleInUse}
 use Rattle.model.specs.Walk.{Walk, stateAfter}
 use Rattle.vix.specs.declared.Vix.{Vix}
 use Rattle.vix.specs.Form.{rawSquared, vixInUse}

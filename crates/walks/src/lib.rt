@@ -3,7 +3,7 @@ ghost use mathlib.Core.Path.{_≡_};
 ghost use Prim.Native.Nat.{suc, _+_, _<_, _≤_};
 ghost use lib.ListN.{length, getD};
 ghost use lib.Ieee.{nan};
-ghost use Rattle.model.specs.Step.{stateInUse};
+ghost use Rattle.model.specs.Inner.InUse.{stateInUse};
 ghost use Rattle.vix.specs.Form.{vixInUse};
 ghost use Rattle.walks.specs.Batch.{drawPlace, drawOf, observationOf};
 use model::State;

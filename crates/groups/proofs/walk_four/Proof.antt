@@ -12,14 +12,16 @@ use Rattle.model.specs.declared.Kernel.{Kernel}
 use Rattle.model.specs.declared.RawParams.{RawParams}
 use Rattle.model.specs.declared.Schedule.{Schedule}
 use Rattle.model.specs.declared.State.{State}
-use Rattle.model.specs.Rates.{RatesOf}
+use Rattle.model.specs.Inner.Rates.{RatesOf}
 use Rattle.lanes.specs.Inner.Lanes.{laneOf}
-use Rattle.model.specs.Laid.{Laid}
-use Rattle.model.specs.Schedule.{lastStep, dtAt, sqrtDtAt, scheduleInUse}
+use Rattle.model.specs.Inner.Laid.{Laid}
+use Rattle.model.specs.Schedule.{lastStep, dtAt, sqrtDtAt}
+use Rattle.model.specs.Inner.InUse.{scheduleInUse}
 use Rattle.model.proofs.Laws.{rates-own}
 use Rattle.model.proofs.Containment.{laid-in-use, reached-open}
 use lib.Seq.{getD-take}
-use Rattle.model.specs.Step.{step, kernelInUse, stateInUse}
+use Rattle.model.specs.Step.{step}
+use Rattle.model.specs.Inner.InUse.{kernelInUse, stateInUse}
 use Rattle.vix.specs.declared.Vix.{Vix}
 use Rattle.vix.specs.Form.{vixInUse}
 use Rattle.walks.specs.declared.Observed.{Observed}

@@ -10,7 +10,7 @@ use lib.Ieee.{Float, nan, le}
 use Rattle.numeric.specs.Double.{plusZero}
 use Rattle.model.specs.declared.Kernel.{Kernel}
 use Rattle.model.specs.declared.Schedule.{Schedule}
-use Rattle.model.specs.Laid.{Laid}
+use Rattle.model.specs.Inner.Laid.{Laid}
 use Rattle.model.specs.Walk.{stopWithin}
 use Rattle.vix.specs.declared.Vix.{Vix}
 use Rattle.walks.specs.declared.Observed.{Observed}

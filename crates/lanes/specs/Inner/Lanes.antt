@@ -13,7 +13,8 @@ use Rattle.model.specs.declared.Kernel.{Kernel}
 use Rattle.model.specs.declared.Rates.{Rates}
 use Rattle.model.specs.declared.RawParams.{RawParams}
 use Rattle.model.specs.declared.State.{State}
-use Rattle.model.specs.Step.{weightedSum, step, kernelInUse}
+use Rattle.model.specs.Step.{weightedSum, step}
+use Rattle.model.specs.Inner.InUse.{kernelInUse}
 use Rattle.lanes.specs.declared.Lanes.{Lanes}
 use Rattle.lanes.specs.declared.Tried.{Tried}
 

@@ -3,7 +3,7 @@ use mathlib.Core.Path.{_≡_, sym, ap, _∙_}
 use Prim.Native.Nat.{ℕ, _*_}
 use native.Mathlib.Omega.{arith}
 use lib.ListN.{length}
-use Rattle.model.specs.Step.{kernelInUse}
+use Rattle.model.specs.Inner.InUse.{kernelInUse}
 use Rattle.vix.specs.declared.Vix.{Vix}
 use Rattle.vix.proofs.Places.{dimension-most}
 use Rattle.vix.proofs.Building.{not-finite, built}

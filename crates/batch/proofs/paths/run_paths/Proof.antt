@@ -14,10 +14,12 @@ use lib.Ieee.{Float, nan, le}
 use lib.Seq.{getD-take, length-take-le}
 use Rattle.numeric.specs.Double.{plusZero}
 use Rattle.model.specs.declared.Finiteness.the-variants.{Finite}
-use Rattle.model.specs.Laid.{Laid}
-use Rattle.model.specs.Rates.{RatesOf}
-use Rattle.model.specs.Schedule.{lastStep, dtAt, sqrtDtAt, scheduleInUse}
-use Rattle.model.specs.Step.{step, finiteness, kernelInUse, stateInUse}
+use Rattle.model.specs.Inner.Laid.{Laid}
+use Rattle.model.specs.Inner.Rates.{RatesOf}
+use Rattle.model.specs.Schedule.{lastStep, dtAt, sqrtDtAt}
+use Rattle.model.specs.Inner.InUse.{scheduleInUse}
+use Rattle.model.specs.Step.{step, finiteness}
+use Rattle.model.specs.Inner.InUse.{kernelInUse, stateInUse}
 use Rattle.model.proofs.Laws.{rates-own}
 use Rattle.model.proofs.Containment.{laid-in-use, reached-open}
 use Rattle.walks.specs.Batch.{batchOf, drawOf}

@@ -4,7 +4,7 @@ use lib.ListN.{length}
 use borrow.Author.Needs.{needs}
 use Rattle.refusal.specs.declared.Outcome.the-variants.{Passed}
 use Rattle.refusal.specs.Questions.{firstNo}
-use Rattle.model.specs.Step.{kernelInUse}
+use Rattle.model.specs.Inner.InUse.{kernelInUse}
 use Rattle.calls.specs.VixCall.{windowQuestions}
 use Rattle.refusal.proofs.Laws.{kept-same, kept-free}
 use Rattle.calls.proofs.VixCall.{workspace-right, form-refused, form-not-finite, form-built}

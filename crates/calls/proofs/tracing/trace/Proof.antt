@@ -4,9 +4,9 @@ use native.Mathlib.Omega.{arith}
 use borrow.Author.Needs.{needs}
 use Rattle.refusal.specs.declared.Outcome.the-variants.{Passed}
 use Rattle.refusal.proofs.Laws.{no, yes}
-use Rattle.doors.specs.Model.{Model, given}
+use Rattle.model.specs.Simulation.{Model, given}
 use Rattle.doors.specs.Doors.{ModelReady}
-use Rattle.model.specs.Trace.{Tables, tables}
+use Rattle.trace.specs.Walked.{Tables, tables}
 use Rattle.calls.specs.Trace.{afterWalk}
 use Rattle.calls.proofs.TraceCall.{Meets, sized, model-refused, draws-refused, tables-refused, walked}
 use Rattle.calls.proofs.tracing.trace.Statement.{statement}

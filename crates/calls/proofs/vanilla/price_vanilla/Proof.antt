@@ -4,7 +4,7 @@ use borrow.Author.Needs.{needs}
 use Rattle.refusal.specs.declared.Outcome.the-variants.{Passed}
 use Rattle.refusal.specs.Questions.{orLater}
 use Rattle.vix.specs.declared.Vix.{Vix}
-use Rattle.doors.specs.Model.{given}
+use Rattle.model.specs.Simulation.{given}
 use Rattle.calls.specs.Vanilla.{VanillaInputs, vanillaInputs}
 use Rattle.calls.proofs.VanillaAsked.{first, first-refused, ready, sizes-refused, handed, priced-through}
 use Rattle.calls.proofs.vanilla.price_vanilla.Statement.{statement}

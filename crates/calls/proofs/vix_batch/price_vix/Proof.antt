@@ -7,7 +7,7 @@ use lib.ListN.{length}
 use lib.Ieee.{Float}
 use Rattle.refusal.specs.declared.Outcome.the-variants.{Passed}
 use Rattle.refusal.specs.Questions.{firstNo, orLater, KeptUnlessPassed}
-use Rattle.doors.specs.Model.{given}
+use Rattle.model.specs.Simulation.{given}
 use Rattle.doors.specs.Doors.{ModelReady}
 use Rattle.calls.specs.VixCall.{windowQuestions}
 use Rattle.calls.specs.VixBatch.{VixBatchInputs, vixBatchInputs, throughSixteen}

@@ -5,7 +5,7 @@ use native.Mathlib.Omega.{arith}
 use borrow.Author.Needs.{needs}
 use lib.ListN.{length, length-set}
 use lib.Ieee.{ofBits}
-use Rattle.model.specs.Step.{kernelInUse}
+use Rattle.model.specs.Inner.InUse.{kernelInUse}
 use Rattle.vix.specs.Generator.{driftEntry}
 use Rattle.vix.proofs.Entries.{Entries, zeros}
 use Rattle.vix.proofs.Additions.{drift-first, drift-next, drift-all, inside}

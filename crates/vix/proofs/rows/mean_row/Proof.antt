@@ -4,7 +4,7 @@ use Prim.Native.Nat.{_-_, _≤_}
 use native.Mathlib.Omega.{arith}
 use borrow.Author.Needs.{needs}
 use lib.Ieee.{ofBits}
-use Rattle.model.specs.Step.{kernelInUse}
+use Rattle.model.specs.Inner.InUse.{kernelInUse}
 use Rattle.vix.specs.Generator.{meanEntry}
 use Rattle.vix.proofs.Entries.{Entries, zeros}
 use Rattle.vix.proofs.Additions.{mean-first, mean-next, mean-all}

@@ -10,7 +10,7 @@ use lib.Ieee.{Float, ofBits}
 use Rattle.numeric.specs.Double.{plusZero}
 use Rattle.model.specs.declared.Kernel.{Kernel}
 use Rattle.model.specs.declared.RawParams.{RawParams}
-use Rattle.model.specs.Step.{kernelInUse}
+use Rattle.model.specs.Inner.InUse.{kernelInUse}
 use Rattle.vix.specs.Appended.{Appended}
 use Rattle.vix.specs.Form.{pairsBefore}
 use Rattle.vix.specs.Generator.{dimension, integralAt, pairsOfRows, meanCoefficient, pairCoefficient, constantCoefficient, varianceRow, InOrder}

@@ -12,8 +12,8 @@ use Rattle.model.specs.declared.State.{State}
 use Rattle.model.specs.declared.Schedule.{Schedule}
 use Rattle.model.specs.declared.Traced.{Traced}
 use Rattle.model.specs.declared.Traced.the-variants.{Done, NonFinite}
-use Rattle.model.specs.Step.{kernelInUse, stateInUse}
-use Rattle.model.specs.Schedule.{scheduleInUse}
+use Rattle.model.specs.Inner.InUse.{kernelInUse, stateInUse}
+use Rattle.model.specs.Inner.InUse.{scheduleInUse}
 use Rattle.model.specs.Walk.{Walk, Stop, stateAfter, stopWithin, unlessStopped}
 
 -- the walk of a trace: step k takes draw k

@@ -2,8 +2,8 @@
 ghost use mathlib.Core.Path.{_≡_};
 ghost use Prim.Native.Nat.{_+_, _*_, _≤_, _<_};
 ghost use lib.ListN.{length};
-ghost use Rattle.model.specs.Laid.{Laid};
-ghost use Rattle.model.specs.Trace.{Written, PointWritten, Sized, tables, walkOf, traceAnswer, tablesAfter};
+ghost use Rattle.model.specs.Inner.Laid.{Laid};
+ghost use Rattle.trace.specs.Walked.{Written, PointWritten, Sized, tables, walkOf, traceAnswer, tablesAfter};
 use crate::Finiteness;
 use crate::Kernel;
 use crate::RawParams;

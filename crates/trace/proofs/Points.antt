@@ -11,9 +11,9 @@ use lib.Seq.{getD-take, getD-set-same, getD-set-other}
 use lib.Ieee.{Float, nan}
 use Rattle.numeric.proofs.Tables.{is-tabulate}
 use Rattle.model.specs.declared.State.{State}
-use Rattle.model.specs.Step.{stateInUse}
+use Rattle.model.specs.Inner.InUse.{stateInUse}
 use Rattle.model.specs.Walk.{Walk, Stop, stateAfter, stopWithin, unlessStopped}
-use Rattle.model.specs.Trace.{Tables, tables, Sized, Written, PointWritten, tableAfter, tablesAfter}
+use Rattle.trace.specs.Walked.{Tables, tables, Sized, Written, PointWritten, tableAfter, tablesAfter}
 use Rattle.model.proofs.First.{split}
 
 -- ---- values written from a place on

@@ -17,12 +17,14 @@ use Rattle.model.specs.declared.Rates.{Rates}
 use Rattle.model.specs.declared.Finiteness.the-variants.{Finite, NonFinite}
 use Rattle.model.specs.declared.Traced.the-variants.{Done}
 use Rattle.model.specs.declared.Traced.the-variants as answers
-use Rattle.model.specs.Step.{step, finiteness, kernelInUse, stateInUse}
-use Rattle.model.specs.Rates.{RatesOf}
-use Rattle.model.specs.Schedule.{scheduleInUse, dtAt}
-use Rattle.model.specs.Laid.{Laid}
+use Rattle.model.specs.Step.{step, finiteness}
+use Rattle.model.specs.Inner.InUse.{kernelInUse, stateInUse}
+use Rattle.model.specs.Inner.Rates.{RatesOf}
+use Rattle.model.specs.Schedule.{dtAt}
+use Rattle.model.specs.Inner.InUse.{scheduleInUse}
+use Rattle.model.specs.Inner.Laid.{Laid}
 use Rattle.model.specs.Walk.{Walk, stateAfter, stopWithin}
-use Rattle.model.specs.Trace.{Tables, Sized, PointWritten, walkOf, answerOf, traceAnswer, tablesAfter}
+use Rattle.trace.specs.Walked.{Tables, Sized, PointWritten, walkOf, answerOf, traceAnswer, tablesAfter}
 use Rattle.model.proofs.Containment.{Reached, reached-none, reached-open, reached-next, reached-on, dt-reached, sqrt-dt-reached}
 use Rattle.model.proofs.Stops.{stopAt, stop-goes, stop-ends, stop-none}
 use Rattle.model.proofs.Points.{AllThrough, all-none, all-next, all-end}

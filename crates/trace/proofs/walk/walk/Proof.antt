@@ -4,7 +4,7 @@ use Prim.Native.Nat.{_-_, _+_, _<_}
 use native.Mathlib.Omega.{arith}
 use borrow.Author.Needs.{needs}
 use Rattle.model.specs.Walk.{Walk}
-use Rattle.model.specs.Trace.{Tables, tables, walkOf}
+use Rattle.trace.specs.Walked.{Tables, tables, walkOf}
 use Rattle.model.proofs.Laws.{rates-own}
 use Rattle.model.proofs.Containment.{reached-open}
 use Rattle.model.proofs.Points.{AllThrough, point-fits, factors-fit}

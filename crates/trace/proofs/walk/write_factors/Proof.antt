@@ -3,7 +3,7 @@ use Prim.Native.Nat.{_*_, _-_, _≤_}
 use mathlib.Core.Path.{_≡_, refl}
 use native.Mathlib.Omega.{arith}
 use lib.ListN.{length, length-set}
-use Rattle.model.specs.Trace.{Written}
+use Rattle.trace.specs.Walked.{Written}
 use Rattle.model.proofs.Points.{written-none, written-more}
 use Rattle.model.proofs.trace.write_factors.Statement.{statement}
 use Rattle.model.proofs.trace.write_factors.Tie as tie

@@ -1,0 +1,39 @@
+-- What the questions leave of a simulation: doubles of a known size, and a start that is read off
+-- them. Definitions only.
+use mathlib.Core.Path.{_≡_}
+use mathlib.Core.Bool.{true, false}
+use Prim.Native.Nat.{ℕ, _≤_, _<_}
+use lib.IntN.{pos}
+use lib.ListN.{getD}
+use lib.Ieee.{Float, nan, fin, binary64, fits, le}
+use Rattle.numeric.specs.Double.{magnitude}
+use Rattle.model.specs.declared.RawParams.{RawParams}
+use Rattle.model.specs.declared.State.{State}
+use Rattle.model.specs.declared.Simulation.{Simulation}
+use Rattle.model.specs.Kernel.{inRange}
+use Rattle.model.specs.Step.{read}
+
+-- a Decimal as converted: a double, and at most 2^96 in size, since a Decimal's coefficient has 96
+-- bits
+pub record Converted (x : Float) : Type 0 where
+  pub double : fits binary64 x ≡ true
+  pub small : le (magnitude x) (fin false 1 (pos 96)) ≡ true
+
+-- a is not negative, and each Decimal of the parameters, with n factors, is converted
+pub record ParamsReady (n : ℕ) (p : RawParams) (start : State) : Type 0 where
+  pub a-not-negative : magnitude (p .a) ≡ p .a
+  pub a : Converted (p .a)
+  pub b : Converted (p .b)
+  pub c : Converted (p .c)
+  pub lambda : Converted (p .lambda)
+  pub eta : Converted (p .eta)
+  pub spot : Converted (start .spot)
+  pub factor : (i : ℕ) → i < n → Converted (getD (start .factors) i nan)
+
+-- at most 10 weights, each from 2^-90 to 2^90; the parameters as above; and a start whose z and
+-- variance are read off its factors
+pub record Admitted (s : Simulation) : Type 0 where
+  pub few : s .kernel .n ≤ 10
+  pub weight : (i : ℕ) → i < s .kernel .n → inRange (getD (s .kernel .weights) i nan) ≡ true
+  pub params : ParamsReady (s .kernel .n) (s .raw) (s .start)
+  pub start-read : s .start ≡ read (s .kernel) (s .raw) (s .start .spot) (s .start .factors)
