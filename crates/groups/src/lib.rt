@@ -4,17 +4,14 @@ ghost use mathlib.Core.Path.{_≡_};
 ghost use Prim.Native.Nat.{ℕ, suc, _+_, _≤_, _<_};
 ghost use lib.ListN.{length, getD};
 ghost use lib.Ieee.{nan};
-ghost use Rattle.vix.specs.Form.{vixInUse};
-ghost use Rattle.walks.specs.Batch.{drawPlace, drawOf, batchOf};
+ghost use Rattle.walks.specs.Batch.{drawPlace, drawOf};
+ghost use Rattle.walks.specs.Inner.Handed.{batchOf};
 ghost use Rattle.groups.specs.Inner.Group.{GroupPrepared, Walks, flagged, Fell};
 ghost use Rattle.groups.specs.Inner.Group.{ObservedLanes, Column, Copied};
 use lanes::Lanes;
-use model::Kernel;
-use model::RawParams;
-use model::Schedule;
-use model::State;
 use model::scheme;
-use vix::Vix;
+use walks::Batch;
+use walks::Observation;
 use walks::Observed;
 
 // What a group came to: all four walked to their ends, with so many of them non-positive, or a step
@@ -71,13 +68,17 @@ fn set_flags(low: [bool; 4]) -> u64
 }
 
 // What is observed in each lane.
-fn observe(observed: Observed, form: Vix, s: Lanes, factors: &[f64]) -> [f64; 4]
-    requires { ⌜ (form .n ≤ 10) × (length (now factors) ≡ 40) ⌝ }
-    ensures { λ r. ⌜ ObservedLanes observed (vixInUse form) s (now (factors .entry)) r ⌝ }
+fn observe(observation: Observation, s: Lanes, factors: &[f64]) -> [f64; 4]
+    requires { ⌜ (observation .form .n ≤ 10) × (length (now factors) ≡ 40) ⌝ }
+    ensures { λ r. ⌜ ObservedLanes observation s (now (factors .entry)) r ⌝ }
 {
+    let observed = observation.observed;
     match observed {
         Observed::Spot => s.spot,
-        Observed::VixSquared => lanes::form::squared(form, factors),
+        Observed::VixSquared => {
+            let form = observation.form;
+            lanes::form::squared(form, factors)
+        }
     }
 }
 
@@ -95,24 +96,19 @@ fn write_column(values: [f64; 4], count: usize, segment: usize, rows: &mut [f64]
 
 // Paths `path` + 1 to `path` + 4. Their observations go to `rows`, a row a path and a column a
 // segment. Finiteness is asked once: a path that ends finite was finite throughout.
-pub fn walk_four(
-    k: Kernel,
-    p: RawParams,
-    start: State,
-    sched: Schedule,
-    observed: Observed,
-    form: Vix,
-    mirrored: bool,
-    path: usize,
-    draws: &[f64],
-    rows: &mut [f64],
-) -> Together
-    requires { ⌜ GroupPrepared k sched form mirrored path (now draws) (now rows) ⌝ }
+pub fn walk_four(batch: Batch, path: usize, draws: &[f64], rows: &mut [f64]) -> Together
+    requires { ⌜ GroupPrepared batch path (now draws) (now rows) ⌝ }
     ensures long { λ r. ⌜ length (now (rows .exit)) ≡ 256 ⌝ }
-    ensures walks { λ r. ⌜ ((paths : ℕ) → Walks
-        (batchOf k p start sched observed form mirrored paths (now (draws .entry)))
-        path (now (rows .exit)) r) ⌝ }
+    ensures walks { λ r. ⌜ Walks (batchOf batch (now (draws .entry))) path
+        (now (rows .exit)) r ⌝ }
 {
+    let mirrored = batch.mirrored;
+    let observation = batch.observation;
+    let simulation = batch.simulation;
+    let k = simulation.kernel;
+    let p = simulation.raw;
+    let start = simulation.start;
+    let sched = simulation.schedule;
     let total = sched.total;
     let count = sched.count;
     let own = start.factors;
@@ -136,7 +132,7 @@ pub fn walk_four(
         let flags = fallen(low, spot);
         low = flags;
         if at == sched.last[segment] {
-            let values = observe(observed, form, s, &factors[..]);
+            let values = observe(observation, s, &factors[..]);
             write_column(values, count, segment, rows);
             segment += 1;
             rates = scheme::rates_at(k, sched, segment);

@@ -50,9 +50,9 @@ module _ (w : Walk) where
   unfolding stateAfter
   before k h =
       let s = stateAfter w (suc k) in
-      let parts = step-finite (w .kernel) (w .raw) s (w .draw (suc (suc k))) (dtAt (w .schedule) (suc (suc k))) (sqrtDtAt (w .schedule) (suc (suc k))) h in
-      let is-read : s .variance ≡ varianceAt (w .raw) (s .z) = read-variance (w .kernel) (w .raw) (stateAfter w k) (w .draw (suc k)) (dtAt (w .schedule) (suc k)) (sqrtDtAt (w .schedule) (suc k)) in
-      parts-finite s (parts .0) (variance-finite (w .raw) (s .z) (ap finite (sym is-read) ∙ parts .1)) (parts .1)
+      let parts = step-finite (w .simulation .kernel) (w .simulation .raw) s (w .draw (suc (suc k))) (dtAt (w .simulation .schedule) (suc (suc k))) (sqrtDtAt (w .simulation .schedule) (suc (suc k))) h in
+      let is-read : s .variance ≡ varianceAt (w .simulation .raw) (s .z) = read-variance (w .simulation .kernel) (w .simulation .raw) (stateAfter w k) (w .draw (suc k)) (dtAt (w .simulation .schedule) (suc k)) (sqrtDtAt (w .simulation .schedule) (suc k)) in
+      parts-finite s (parts .0) (variance-finite (w .simulation .raw) (s .z) (ap finite (sym is-read) ∙ parts .1)) (parts .1)
 
   pub all-finite : (n : ℕ) → finiteness (stateAfter w n) ≡ Finite → (k : ℕ) → 1 ≤ k → k ≤ n → finiteness (stateAfter w k) ≡ Finite
   all-finite zero h k l m = absurd (omega arith)

@@ -23,7 +23,8 @@ use Rattle.vix.specs.Form.{vixInUse}
 use Rattle.vix.proofs.Pairs.{squared-in-use}
 use Rattle.walks.specs.declared.Observed.{Observed}
 use Rattle.walks.specs.declared.Observed.the-variants.{Spot, VixSquared}
-use Rattle.walks.specs.Batch.{drawPlace, drawsNeeded, observationOf}
+use Rattle.walks.specs.Batch.{drawPlace, drawsNeeded}
+use Rattle.walks.specs.Inner.Handed.{observationOf}
 use Rattle.walks.proofs.Cells.{row-last}
 
 -- the code's 0.0

@@ -4,8 +4,10 @@ ghost use Prim.Native.Nat.{suc, _+_, _<_, _≤_};
 ghost use lib.ListN.{length, getD};
 ghost use lib.Ieee.{nan};
 ghost use Rattle.model.specs.Inner.InUse.{stateInUse};
-ghost use Rattle.vix.specs.Form.{vixInUse};
-ghost use Rattle.walks.specs.Batch.{drawPlace, drawOf, observationOf};
+ghost use Rattle.vix.specs.Form.{noForm};
+ghost use Rattle.walks.specs.Batch.{drawPlace, drawOf};
+ghost use Rattle.walks.specs.Inner.Handed.{observeBy};
+use model::Simulation;
 use model::State;
 use model::draws;
 use vix::Vix;
@@ -14,6 +16,40 @@ use vix::Vix;
 pub enum Observed {
     Spot,
     VixSquared,
+}
+
+// What is observed, with the form that the VIX is read off; of a spot no form is looked at.
+pub struct Observation {
+    pub observed: Observed,
+    pub form: Vix,
+}
+
+// The paths of a batch. In a mirrored one path 2i has the draws of path 2i - 1, negated.
+pub struct Batch {
+    pub simulation: Simulation,
+    pub observation: Observation,
+    pub mirrored: bool,
+    pub paths: usize,
+}
+
+impl Observation {
+    pub fn of_spot() -> Observation
+        ensures { λ r. ⌜ r ≡ record { observed = Observed.Spot; form = noForm 0 } ⌝ }
+    {
+        Observation {
+            observed: Observed::Spot,
+            form: vix::no_form(0),
+        }
+    }
+
+    pub fn of_vix(form: Vix) -> Observation
+        ensures { λ r. ⌜ r ≡ record { observed = Observed.VixSquared; form = form } ⌝ }
+    {
+        Observation {
+            observed: Observed::VixSquared,
+            form: form,
+        }
+    }
 }
 
 // The draw that a path takes after `at` of its `total` draws, which begin at place `first`. The
@@ -43,13 +79,15 @@ pub fn draw_at(mirrored: bool, draws: &[f64], total: usize, path: usize, at: usi
     path_draw(draws, path * total, total, at)
 }
 
-pub fn observe(observed: Observed, form: Vix, s: State) -> f64
-    requires { ⌜ form .n ≤ 10 ⌝ }
-    ensures { λ r. ⌜ r ≡ observationOf observed (vixInUse form) (stateInUse (form .n) s) ⌝ }
+pub fn observe(observation: Observation, s: State) -> f64
+    requires { ⌜ observation .form .n ≤ 10 ⌝ }
+    ensures { λ r. ⌜ r ≡ observeBy observation (stateInUse (observation .form .n) s) ⌝ }
 {
+    let observed = observation.observed;
     match observed {
         Observed::Spot => s.spot,
         Observed::VixSquared => {
+            let form = observation.form;
             let factors = s.factors;
             vix::raw_squared(form, factors)
         }

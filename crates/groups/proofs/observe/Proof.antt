@@ -35,10 +35,10 @@ returns c = λ n l few h. sym (rw (c .before .enum-told .given .1))
 
 returns-2 : tie.Need-returns-2
 returns-2 c =
-    let args = c .before .before .before .before .args in
+    let args = c .before .before .before .before .before .args in
     λ n l few h.
-    c .squared .ensures l h ∙ fewer (args .form) (args .factors .now) n l few
-    ∙ sym (rw (c .before .enum-told2 .given .1))
+    c .squared .ensures l h ∙ fewer (args .observation .form) (args .factors .now) n l few
+    ∙ sym (rw (c .before .before .enum-told2 .given .1))
 
 pub observe-spec : {M : Type 1} → statement M
 observe-spec = tie.close (tie.spec enum-told enum-told-2 squared-requires returns returns-2)

@@ -22,10 +22,9 @@ use Rattle.model.proofs.Containment.{laid-in-use, reached-open}
 use lib.Seq.{getD-take}
 use Rattle.model.specs.Step.{step}
 use Rattle.model.specs.Inner.InUse.{kernelInUse, stateInUse}
-use Rattle.vix.specs.declared.Vix.{Vix}
-use Rattle.vix.specs.Form.{vixInUse}
-use Rattle.walks.specs.declared.Observed.{Observed}
-use Rattle.walks.specs.Batch.{Batch, drawOf, observationOf}
+use Rattle.walks.specs.declared.Observation.{Observation}
+use Rattle.walks.specs.Batch.{Batch, drawOf}
+use Rattle.walks.specs.Inner.Handed.{observeBy}
 use Rattle.groups.specs.Inner.Group.{FourWalked}
 use Rattle.walks.proofs.Handed.{step-in-use}
 use Rattle.lanes.proofs.Four.{four-same}
@@ -34,25 +33,23 @@ use Rattle.groups.proofs.walk_four.Statement.{statement}
 use Rattle.groups.proofs.walk_four.Tie as tie
 
 -- the batch, but for its start
-abbrev sideBatch : Kernel → RawParams → State → Schedule → Observed → Vix → Bool → ℕ → List Float → Batch
-sideBatch k p start sched observed form mirrored paths draws =
+abbrev sideBatch : Kernel → RawParams → State → Schedule → Observation → Bool → ℕ → List Float → Batch
+sideBatch k p start sched observation mirrored paths draws =
     record {
-      kernel = kernelInUse k;
-      raw = p;
-      start = start;
-      schedule = scheduleInUse sched;
+      simulation = record { kernel = kernelInUse k; raw = p; start = start; schedule = scheduleInUse sched };
+      observed = observation .observed;
+      observe = observeBy observation;
       paths = paths;
       draw = drawOf mirrored draws (sched .total);
-      observe = observationOf observed (vixInUse form);
     }
 
 abbrev Inv-loop : tie.InvT-loop
-Inv-loop k p observed form mirrored path draws rows₀ sched total count factors₀ s₀ low₀ segment₀ rates₀ at₀ rows factors s low segment rates at =
-    ((paths : ℕ) → Beside (sideBatch k p (laneOf (k .n) s₀ factors₀ 0) sched observed form mirrored paths draws) (k .n) path segment at s factors low rows)
+Inv-loop path draws rows₀ mirrored observation k p sched total count factors₀ s₀ low₀ segment₀ rates₀ at₀ rows factors s low segment rates at =
+    ((paths : ℕ) → Beside (sideBatch k p (laneOf (k .n) s₀ factors₀ 0) sched observation mirrored paths draws) (k .n) path segment at s factors low rows)
     × RatesOf k (getD (sched .dt) segment nan) (getD (sched .«sqrt_dt») segment nan) rates
 
 abbrev μ-loop : tie.MeasureT-loop
-μ-loop k p observed form mirrored path draws rows₀ sched total count factors₀ s₀ low₀ segment₀ rates₀ at₀ rows factors s low segment rates at =
+μ-loop path draws rows₀ mirrored observation k p sched total count factors₀ s₀ low₀ segment₀ rates₀ at₀ rows factors s low segment rates at =
     total - at
 
 -- ---- the places of the code that the answers name: the entry, the loop's head, a turn, the step
@@ -73,8 +70,11 @@ Stepped = tie.After-try-step Inv-loop μ-loop
 abbrev Flagged : Type 0
 Flagged = tie.After-fallen Inv-loop μ-loop
 
+abbrev start-of : tie.After-all-at Inv-loop μ-loop → Entry
+start-of c = c .before .before .before .before .before .before .before .before .before .before .before .before .before
+
 abbrev entry : Head → Entry
-entry c = c .before .before .before .before .before .before .before .before .before
+entry c = start-of (c .before .before)
 
 abbrev turn-of : Stepped → Turn
 turn-of c = c .before .before .before
@@ -85,14 +85,14 @@ step-of c = c .before .before .before .before .before .before
 abbrev flagged-of : tie.After-slice-known2 Inv-loop μ-loop → Flagged
 flagged-of c = c .before .before .before .before .before .before .before .before
 
-laid-at : (c : Entry) → Laid (scheduleInUse (c .args .t4))
-laid-at c = laid-in-use (c .args .t4) (c .pre .laid)
+laid-at : (c : Entry) → Laid (scheduleInUse (c .args .batch .simulation .schedule))
+laid-at c = laid-in-use (c .args .batch .simulation .schedule) (c .pre .laid)
 
-open-at : (c : Turn) → c .before .loop .segment < entry (c .before) .args .t4 .count
+open-at : (c : Turn) → c .before .loop .segment < entry (c .before) .args .batch .simulation .schedule .count
 open-at c = reached-open _ (laid-at (entry (c .before))) _ _ (c .before .loop .inv .0 0 .reached) (c .loop-test .taken)
 
-long-start : (c : Entry) → length (c .args .start .factors) ≡ 10
-long-start c = search needs
+long-start : (c : Entry) → length (c .args .batch .simulation .start .factors) ≡ 10
+long-start c = let start-good = c .good .0 .1 .1 .0 .1 .1 .1 .1 .0 in search (needs, start-good)
 
 -- ---- before the loop
 
@@ -100,28 +100,28 @@ slice-aggregate-spread : tie.Need-slice-aggregate-spread Inv-loop μ-loop
 slice-aggregate-spread c = search needs
 
 spread-requires : tie.Need-spread-requires Inv-loop μ-loop
-spread-requires c κs = (c .before .before .before .before .pre .few, refl)
+spread-requires c κs = (c .before .before .before .before .before .before .before .before .before .before .pre .few, refl)
 
 all-at-requires : tie.Need-all-at-requires Inv-loop μ-loop
 all-at-requires c κs = search needs
 
 rates-at-requires : tie.Need-rates-at-requires Inv-loop μ-loop
-rates-at-requires c κs = c .before .before .before .before .before .before .before .pre .few
+rates-at-requires c κs = start-of c .pre .few
 
 -- every lane at the start
-all-start : (c : tie.After-all-at Inv-loop μ-loop) → let start = c .before .before .before .before .before .before .before in (l : ℕ) → l < 4
-    → laneOf (start .args .k .n) (c .all-at .result) (c .before .before .spread .last .1 .1 .0) l ≡ stateInUse (start .args .k .n) (start .args .start)
+all-start : (c : tie.After-all-at Inv-loop μ-loop) → let start = start-of c in (l : ℕ) → l < 4
+    → laneOf (start .args .batch .simulation .kernel .n) (c .all-at .result) (c .before .before .spread .last .1 .1 .0) l ≡ stateInUse (start .args .batch .simulation .kernel .n) (start .args .batch .simulation .start)
 all-start c =
-    let start = c .before .before .before .before .before .before .before in
-    lane-at-start (start .args .k .n) (start .args .start) (c .all-at .result) _ (omega (arith, start .pre .few, long-start start))
+    let start = start-of c in
+    lane-at-start (start .args .batch .simulation .kernel .n) (start .args .batch .simulation .start) (c .all-at .result) _ (omega (arith, start .pre .few, long-start start))
     (c .all-at .ensures) (c .before .before .spread .ensures)
 
 loop-holds : tie.Need-loop-holds Inv-loop μ-loop
 loop-holds c =
-    let start = c .before .before .before .before .before .before .before .before in
+    let start = start-of (c .before) in
     let same = all-start (c .before) in (
       λ paths.
-          beside-first _ (laid-at start) (start .args .k .n) (start .args .path) _ _ _ _ (c .before .before .before .spread .ensures .long)
+          beside-first _ (laid-at start) (start .args .batch .simulation .kernel .n) (start .args .path) _ _ _ _ (c .before .before .before .spread .ensures .long)
           (start .pre .rows-long) (λ l h. same l h ∙ sym (same 0 (omega arith))) (four-same false false),
       c .rates-at .ensures,
     )
@@ -138,14 +138,14 @@ slice-aggregate-try-step c = sym (c .before .before .before .loop .inv .0 0 .lon
 try-step-requires : tie.Need-try-step-requires Inv-loop μ-loop
 try-step-requires c κs =
     let head : Head = c .before .before .before in
-    ((entry head .pre .few, head .loop .inv .0 0 .long), rates-own (entry head .args .k) _ _ _ (head .loop .inv .1))
+    ((entry head .pre .few, head .loop .inv .0 0 .long), rates-own (entry head .args .batch .simulation .kernel) _ _ _ (head .loop .inv .1))
 
 same-length : tie.Need-same-length Inv-loop μ-loop
 same-length c =
     let head : Head = turn-of (c .before .before .before) .before in head .loop .inv .0 0 .wide ∙ sym (entry head .pre .rows-long)
 
 returns : tie.Need-returns Inv-loop μ-loop
-returns c = (turn-of (c .before .before .before) .before .loop .inv .0 0 .wide, λ paths. tt)
+returns c = (turn-of (c .before .before .before) .before .loop .inv .0 0 .wide, tt)
 
 add-at : tie.Need-add-at Inv-loop μ-loop
 add-at c =
@@ -197,14 +197,14 @@ module _ (c : Flagged) where
   given = entry head
 
   -- each lane's state is that of the plain walk
-  stepped : (l : ℕ) → l < 4 → laneOf (given .args .k .n) (step-of c .try-step .result .lanes) (step-of c .try-step .last .1 .1 .1 .1 .1 .0) l ≡ step (kernelInUse (given .args .k)) (given .args .p) (laneOf (given .args .k .n) (head .loop .s) (head .loop .factors) l) (drawOf (given .args .mirrored) (given .args .draws .now) (given .args .t4 .total) (suc (given .args .path + l)) (suc (head .loop .at))) (dtAt (scheduleInUse (given .args .t4)) (suc (head .loop .at))) (sqrtDtAt (scheduleInUse (given .args .t4)) (suc (head .loop .at)))
+  stepped : (l : ℕ) → l < 4 → laneOf (given .args .batch .simulation .kernel .n) (step-of c .try-step .result .lanes) (step-of c .try-step .last .1 .1 .1 .1 .1 .0) l ≡ step (kernelInUse (given .args .batch .simulation .kernel)) (given .args .batch .simulation .raw) (laneOf (given .args .batch .simulation .kernel .n) (head .loop .s) (head .loop .factors) l) (drawOf (given .args .batch .mirrored) (given .args .draws .now) (given .args .batch .simulation .schedule .total) (suc (given .args .path + l)) (suc (head .loop .at))) (dtAt (scheduleInUse (given .args .batch .simulation .schedule)) (suc (head .loop .at))) (sqrtDtAt (scheduleInUse (given .args .batch .simulation .schedule)) (suc (head .loop .at)))
   stepped l h =
-      step-in-use (given .args .t4) (given .pre .laid) _ _ (head .loop .inv .0 0 .reached) (open-at (turn-of (step-of c))) (given .args .k) (head .loop .rates) (head .loop .inv .1) _ _ _ _ _ _ (step-of c .before .before .draws-at .ensures l h)
+      step-in-use (given .args .batch .simulation .schedule) (given .pre .laid) _ _ (head .loop .inv .0 0 .reached) (open-at (turn-of (step-of c))) (given .args .batch .simulation .kernel) (head .loop .rates) (head .loop .inv .1) _ _ _ _ _ _ (step-of c .before .before .draws-at .ensures l h)
       (step-of c .try-step .ensures .lane (not-false _ (c .before .before .before .if1 .left)) l h)
 
   -- the last step of the segment
-  last-now : getD (given .args .t4 .last) (head .loop .segment) 0 ≡ lastStep (scheduleInUse (given .args .t4)) (suc (head .loop .segment))
-  last-now = sym (getD-take (given .args .t4 .count) (given .args .t4 .last) _ 0 (open-at (turn-of (step-of c))))
+  last-now : getD (given .args .batch .simulation .schedule .last) (head .loop .segment) 0 ≡ lastStep (scheduleInUse (given .args .batch .simulation .schedule)) (suc (head .loop .segment))
+  last-now = sym (getD-take (given .args .batch .simulation .schedule .count) (given .args .batch .simulation .schedule .last) _ 0 (open-at (turn-of (step-of c))))
 
 loop-less : tie.Need-loop-less Inv-loop μ-loop
 loop-less c = omega arith
@@ -219,7 +219,7 @@ loop-again c =
           beside-write (laid-at (given flagged)) (h .loop .inv .0 paths) (turn-of (step-of flagged) .loop-test .taken) _ _ _
           (stepped flagged) (long-now (step-of flagged)) (flagged .fallen .ensures)
           (observed .before .before .if2 .taken ∙ last-now flagged) _ (written .write-column .ensures .long ∙ h .loop .inv .0 0 .wide)
-          (λ l m. written .write-column .ensures .new l m ∙ observed .observe .ensures (given flagged .args .k .n) l (given flagged .pre .form) m)
+          (λ l m. written .write-column .ensures .new l m ∙ observed .observe .ensures (given flagged .args .batch .simulation .kernel .n) l (given flagged .pre .form) m)
           (written .write-column .ensures .kept),
       c .rates-at2 .ensures,
     )
@@ -246,7 +246,7 @@ same-length-2 : tie.Need-same-length-2 Inv-loop μ-loop
 same-length-2 c = let head : Head = c .before .before .before in head .loop .inv .0 0 .wide ∙ sym (entry head .pre .rows-long)
 
 returns-2 : tie.Need-returns-2 Inv-loop μ-loop
-returns-2 c = (c .before .before .before .loop .inv .0 0 .wide, λ paths. tt)
+returns-2 c = (c .before .before .before .loop .inv .0 0 .wide, tt)
 
 set-flags-requires : tie.Need-set-flags-requires Inv-loop μ-loop
 set-flags-requires c κs = search needs
@@ -258,13 +258,13 @@ same-length-3 c =
 returns-3 : tie.Need-returns-3 Inv-loop μ-loop
 returns-3 c =
     let h : Head = c .before .before .before .before in
-    let e = entry h in (
+    let e = entry h in
+    let b = e .args .batch in (
       h .loop .inv .0 0 .wide,
-      λ paths.
-          subst (λ (x : State). FourWalked (sideBatch (e .args .k) (e .args .p) x (e .args .t4) (e .args .observed) (e .args .form) (e .args .mirrored) paths (e .args .draws .now)) (e .args .path) (h .loop .rows) (c .set-flags .result))
-          (all-start (h .before .before) 0 (omega arith))
-          (beside-done (laid-at e) (h .loop .inv .0 paths) (c .before .before .before .loop-test .left) _ (c .set-flags .ensures .0)
-          (c .set-flags .ensures .1) (c .before .before .all-finite .ensures (not-false _ (c .before .if3 .left)))),
+      subst (λ (x : State). FourWalked (sideBatch (b .simulation .kernel) (b .simulation .raw) x (b .simulation .schedule) (b .observation) (b .mirrored) (b .paths) (e .args .draws .now)) (e .args .path) (h .loop .rows) (c .set-flags .result))
+      (all-start (h .before .before) 0 (omega arith))
+      (beside-done (laid-at e) (h .loop .inv .0 (b .paths)) (c .before .before .before .loop-test .left) _ (c .set-flags .ensures .0)
+      (c .set-flags .ensures .1) (c .before .before .all-finite .ensures (not-false _ (c .before .if3 .left)))),
     )
 
 pub walk-four-spec : {M : Type 1} → statement M

@@ -8,14 +8,12 @@ use Prim.Native.Nat.{ℕ, zero, suc, _+_, _*_, _≤_, _<_}
 use lib.ListN.{length, getD}
 use lib.Ieee.{Float, nan, le}
 use Rattle.numeric.specs.Double.{plusZero}
-use Rattle.model.specs.declared.Kernel.{Kernel}
-use Rattle.model.specs.declared.Schedule.{Schedule}
 use Rattle.model.specs.Inner.Laid.{Laid}
 use Rattle.model.specs.Walk.{stopWithin}
-use Rattle.vix.specs.declared.Vix.{Vix}
-use Rattle.walks.specs.declared.Observed.{Observed}
-use Rattle.walks.specs.Batch.{Batch, walkOf, drawPlace, nonPositivePaths}
-use Rattle.walks.specs.Batch.{observationOf, observation}
+use Rattle.walks.specs.declared.Batch.{Batch as Handed}
+use Rattle.walks.specs.declared.Observation.{Observation}
+use Rattle.walks.specs.Batch.{Batch, walkOf, drawPlace, nonPositivePaths, observation}
+use Rattle.walks.specs.Inner.Handed.{observeBy}
 use Rattle.lanes.specs.declared.Lanes.{Lanes}
 use Rattle.lanes.specs.Inner.Lanes.{laneOf}
 use Rattle.groups.specs.declared.Together.{Together}
@@ -24,25 +22,26 @@ use Rattle.groups.specs.declared.Together.the-variants.{Walked, Unsure}
 -- paths path + 1 to path + 4 do not stop, `low` of them are non-positive, and `rows` has their
 -- observations
 pub record FourWalked (b : Batch) (path : ℕ) (rows : List Float) (low : ℕ) : Type 0 where
-  pub going : (l : ℕ) → l < 4 → stopWithin (walkOf b (suc (path + l))) (b .schedule .total) ≡ none
+  pub going : (l : ℕ) → l < 4 → stopWithin (walkOf b (suc (path + l))) (b .simulation .schedule .total) ≡ none
   pub fallen : nonPositivePaths b (path + 4) ≡ nonPositivePaths b path + low
   pub few : low ≤ 4
-  pub seen : (l j : ℕ) → l < 4 → j < b .schedule .count
-      → getD rows (l * b .schedule .count + j) nan ≡ observation b (suc (path + l)) (suc j)
+  pub seen : (l j : ℕ) → l < 4 → j < b .simulation .schedule .count
+      → getD rows (l * b .simulation .schedule .count + j) nan ≡ observation b (suc (path + l)) (suc j)
 
 abbrev pub Walks : Batch → ℕ → List Float → Together → Type 0
 Walks b path rows (Walked low) = FourWalked b path rows low
 Walks b path rows Unsure = Unit {0}
 
 -- what the walk is handed
-pub record GroupPrepared (k : Kernel) (sched : Schedule) (vix : Vix) (mirrored : Bool) (path : ℕ)
-    (draws rows : List Float) : Type 0 where
-  pub few : k .n ≤ 10
-  pub form : vix .n ≤ k .n
-  pub laid : Laid sched
+pub record GroupPrepared (b : Handed) (path : ℕ) (draws rows : List Float) : Type 0 where
+  pub few : b .simulation .kernel .n ≤ 10
+  pub form : b .observation .form .n ≤ b .simulation .kernel .n
+  pub laid : Laid (b .simulation .schedule)
   pub most : path ≤ 65536
   pub drawn : (l : ℕ) → l < 4
-      → drawPlace mirrored (sched .total) (suc (path + l)) (suc (sched .total)) ≤ length draws
+      → drawPlace (b .mirrored) (b .simulation .schedule .total) (suc (path + l))
+      (suc (b .simulation .schedule .total))
+      ≤ length draws
   pub rows-long : length rows ≡ 256
 
 -- how many of the first n flags are set
@@ -56,10 +55,10 @@ pub record Fell (low : List Bool) (spot : List Float) (flags : List Bool) : Type
       → getD flags l false ≡ (getD low l false || le (getD spot l nan) plusZero)
 
 -- what is observed in each lane, of states of as many factors as the form has, or more
-abbrev pub ObservedLanes : Observed → Vix → Lanes → List Float → List Float → Type 0
-ObservedLanes observed form s factors values =
-    (n l : ℕ) → form .n ≤ n → l < 4
-    → getD values l nan ≡ observationOf observed form (laneOf n s factors l)
+abbrev pub ObservedLanes : Observation → Lanes → List Float → List Float → Type 0
+ObservedLanes observation s factors values =
+    (n l : ℕ) → observation .form .n ≤ n → l < 4
+    → getD values l nan ≡ observeBy observation (laneOf n s factors l)
 
 -- a column of the four rows
 pub record Column (values : List Float) (count segment : ℕ) (before after : List Float)

@@ -17,7 +17,7 @@ returns : tie.Need-returns
 returns c = search needs
 
 returns-2 : tie.Need-returns-2
-returns-2 c = c .raw-squared .ensures ∙ sym (rw (c .before .before .enum-told2 .given .1))
+returns-2 c = c .raw-squared .ensures ∙ sym (rw (c .before .before .before .enum-told2 .given .1))
 
 pub observe-spec : {M : Type 1} → statement M
 observe-spec = tie.close (tie.spec enum-told enum-told-2 raw-squared-requires returns returns-2)
