@@ -19,40 +19,52 @@ use Rattle.model.specs.Walk.{Stop, stateAfter, stopWithin}
 use Rattle.model.specs.Inner.Admitted.{Admitted}
 use Rattle.model.proofs.First.{none-some, none-at, none-all, first-at}
 use Rattle.model.proofs.Stops.{StopsAt, stop-finite, finite-stop, stop-first}
-use Rattle.model.proofs.Containment.{contains-yes, segment-of, segment-at, segment-only}
+use Rattle.model.proofs.Containment.{laid-in-use, contains-yes, segment-of, segment-at, segment-only}
 use Rattle.model.proofs.FiniteStates.{walk-sound}
-use Rattle.batch.specs.declared.Run.{Run}
-use Rattle.batch.specs.declared.Run.the-variants.{Done, NonFinite as Stopped}
-use Rattle.walks.specs.Batch.{Batch, walkOf, nonPositivePaths}
-use Rattle.batch.specs.Run.{RunStop, onPath, runStop}
-use Rattle.walks.specs.Batch.{observation}
-use Rattle.batch.specs.Run.{answerAt, runAnswer, entryAfter, tableAfter}
-use Rattle.batch.specs.Claim.{OneTo, stateOf, FiniteAt, StepTaken, PlainWalks, FiniteBefore}
-use Rattle.batch.specs.Claim.{FirstFailure, Reaches, entry, Written}
-use Rattle.batch.specs.RunClaim.{RunEnds, RunClaim}
+use Rattle.refusal.specs.declared.Refusal.{Refusal}
+use Rattle.refusal.specs.Questions.{Question, firstNo, onceAsked}
+use Rattle.model.specs.Inner.InUse.{simulationInUse}
+use Rattle.walks.specs.declared.Batch.{Batch as Handed}
+use Rattle.walks.specs.Inner.Handed.{batchOf}
+use Rattle.walks.specs.Batch.{Batch, walkOf, nonPositivePaths, observation}
 use Rattle.walks.proofs.Cells.{row-below}
+use Rattle.estimates.specs.declared.Estimates.{Estimates}
+use Rattle.estimates.specs.declared.Payoff.{Payoff}
+use Rattle.estimates.proofs.Values.{SameUpTo}
+use Rattle.batch.specs.declared.Run.{Run}
+use Rattle.batch.specs.declared.Priced.{Priced}
+use Rattle.batch.specs.declared.Priced.the-variants.{Price}
+use Rattle.batch.specs.declared.Report.{Report}
+use Rattle.batch.specs.Run.{RunStop, onPath, runStop, entryAfter, tableAfter}
+use Rattle.batch.specs.Report.{reported, refusedAfter, pricedAt, pricedRun}
+use Rattle.batch.specs.Claim.{pricedAnswer, answerOf, OneTo, stateOf, FiniteAt, StepTaken, PlainWalks}
+use Rattle.batch.specs.Claim.{SomeStepFails, FiniteBefore, FirstFailure, reportOf, Reaches}
+use Rattle.batch.specs.Claim.{entry, Written, BatchClaim}
+use Rattle.batch.specs.Inner.Handed.{lastObservation, walkedOf, runAt, runAnswer, BatchRun}
+use Rattle.batch.specs.Inner.Handed.{reportedOf, pricedFrom, pricedAfter, BatchPriced}
+use Rattle.batch.proofs.Reporting.{reported-read, reported-other, reported-same, questions-same}
 use Rattle.batch.proofs.Stops.{runStopAt, entry-new, entry-run, entry-path}
 
 -- ---- 1
-module _ (b : Batch) (laid : Laid (b .schedule)) where
+module _ (b : Batch) (laid : Laid (b .simulation .schedule)) where
   only :
-      (k g : ℕ) → g < b .schedule .count → lastStep (b .schedule) g < k
-      → k ≤ lastStep (b .schedule) (suc g) → (j : ℕ) → OneTo (b .schedule .count) j
-      → contains (b .schedule) j k ≡ true → j ≡ suc g
+      (k g : ℕ) → g < b .simulation .schedule .count → lastStep (b .simulation .schedule) g < k
+      → k ≤ lastStep (b .simulation .schedule) (suc g) → (j : ℕ) → OneTo (b .simulation .schedule .count) j
+      → contains (b .simulation .schedule) j k ≡ true → j ≡ suc g
   only k g l lo hi zero i e = absurd (omega (arith, i .from))
-  only k g l lo hi (suc j) i e = ap suc (segment-only (b .schedule) laid g j k l (i .upto) lo hi e)
+  only k g l lo hi (suc j) i e = ap suc (segment-only (b .simulation .schedule) laid g j k l (i .upto) lo hi e)
 
-  step-of : (p k : ℕ) → OneTo (b .schedule .total) k → StepTaken b p k
+  step-of : (p k : ℕ) → OneTo (b .simulation .schedule .total) k → StepTaken b p k
   unfolding stateAfter dtAt sqrtDtAt
   step-of p zero h = absurd (omega (arith, h .from))
   step-of p (suc k) h =
-      let r = segment-at (b .schedule) laid (suc k) (h .from) (h .upto) in
+      let r = segment-at (b .simulation .schedule) laid (suc k) (h .from) (h .upto) in
       record {
         segment = suc (r .0);
         is-segment = record { from = omega arith; upto = r .1 };
-        contained = contains-yes (b .schedule) laid (r .0) (suc k) (r .2) (r .3);
+        contained = contains-yes (b .simulation .schedule) laid (r .0) (suc k) (r .2) (r .3);
         only = only (suc k) (r .0) (r .1) (r .2) (r .3);
-        goes = rw (segment-of (b .schedule) laid (r .0) (suc k) (r .1) (r .2) (r .3));
+        goes = rw (segment-of (b .simulation .schedule) laid (r .0) (suc k) (r .1) (r .2) (r .3));
       }
 
 -- ---- 2
@@ -73,7 +85,7 @@ module _ (b : Batch) where
   run-finite : (n : ℕ) → runStop b n ≡ none → FiniteBefore b (suc n)
   unfolding runStop
   run-finite n e r k h l i =
-      stop-finite (walkOf b r) (b .schedule .total)
+      stop-finite (walkOf b r) (b .simulation .schedule .total)
       (path-none r _ (none-at _ n r e h (omega arith))) k (i .from) (i .upto)
 
   finite-run : (n : ℕ) → FiniteBefore b (suc n) → runStop b n ≡ none
@@ -82,7 +94,7 @@ module _ (b : Batch) where
       none-all _ n
       (λ r l m.
       rw
-      (finite-stop (walkOf b r) (b .schedule .total)
+      (finite-stop (walkOf b r) (b .simulation .schedule .total)
       (λ k i j. h r k l (omega arith) (record { from = i; upto = j }))))
 
   -- and where it stops is the first failure
@@ -93,9 +105,9 @@ module _ (b : Batch) where
   run-first n x few e =
       let r = first-at _ n x e in
       let here = path-some (r .0) _ x (r .1 .here) in
-      let stops : StopsAt (walkOf b (x .path)) (b .schedule .total) (x .stop) =
-      stop-first (walkOf b (x .path)) (b .schedule .total) (x .stop)
-      (subst (λ (p : ℕ). stopWithin (walkOf b p) (b .schedule .total) ≡ some (x .stop))
+      let stops : StopsAt (walkOf b (x .path)) (b .simulation .schedule .total) (x .stop) =
+      stop-first (walkOf b (x .path)) (b .simulation .schedule .total) (x .stop)
+      (subst (λ (p : ℕ). stopWithin (walkOf b p) (b .simulation .schedule .total) ≡ some (x .stop))
       (sym (here .0)) (here .1)) in
       record {
         is-path =
@@ -107,104 +119,46 @@ module _ (b : Batch) where
         fails = stops .fails;
         first-step = stops .earlier;
         first-path = λ p k h l i.
-            stop-finite (walkOf b p) (b .schedule .total)
+            stop-finite (walkOf b p) (b .simulation .schedule .total)
             (path-none p _ (r .1 .earlier p h (omega (arith, here .0)))) k (i .from) (i .upto);
       }
-
-  done-apart : (s l p k : ℕ) (q : Quantity) (t : ℕ) → Done s l ≡ Stopped p k q t → ⊥
-  done-apart s l p k q t e = let z : _≡_ {A = ℕ} 0 1 = cc in omega arith
 
   finite-apart :
       (p k : ℕ) (q : Quantity) → finiteness (stateOf b p k) ≡ NonFinite q → FiniteAt b p k → ⊥
   finite-apart p k q e f = let z : _≡_ {A = ℕ} 0 1 = cc in omega arith
 
-  same-failure :
-      {p p′ k k′ : ℕ} {q q′ : Quantity} → p ≡ p′ → k ≡ k′ → q ≡ q′ → FirstFailure b p k q
-      → FirstFailure b p′ k′ q′
-  same-failure a c d f = rw (a, c, d) at f
-
-  -- a run that stops names the first failure
-  stopped-at :
-      (x : RunStop) → FirstFailure b (x .path) (x .stop .step) (x .stop .quantity)
-      → RunEnds b (answerAt b (some x))
-  stopped-at x f =
-      record {
-        exactly = (
-          λ u.
-              record {
-                path = x .path;
-                is-path = f .is-path;
-                step = x .stop .step;
-                is-step = f .is-step;
-                fails = finite-apart (x .path) (x .stop .step) (x .stop .quantity) (f .fails);
-              },
-          λ u. tt,
-        );
-        stopped = λ p k q steps e.
-            let a : x .path ≡ p = cc in
-            let c : x .stop .step ≡ k = cc in
-            let d : x .stop .quantity ≡ q = cc in
-            let t : pred (x .path) * b .schedule .total + x .stop .step ≡ steps = cc in (
-              same-failure a c d f,
-              sym t ∙ rw (a, c),
-            );
-        done = λ s l e. absurd (done-apart s l _ _ _ _ (sym e));
-      }
-
-  ends : RunEnds b (runAnswer b)
-  unfolding runAnswer
-  ends = go (runStop b (b .paths)) refl
-    where
-      go : (o : Option RunStop) → runStop b (b .paths) ≡ o → RunEnds b (answerAt b o)
-      go none e =
-          record {
-            exactly = (
-              λ u. absurd u,
-              λ s.
-                  s .fails
-                  (run-finite (b .paths) e (s .path) (s .step) (s .is-path .from)
-                  (omega (arith, s .is-path .upto)) (s .is-step)),
-            );
-            stopped = λ p k q steps h. absurd (done-apart _ _ p k q steps h);
-            done = λ s l h. (
-              let t : b .paths * b .schedule .total ≡ s = cc in sym t,
-              let t : nonPositivePaths b (b .paths) ≡ l = cc in sym t,
-            );
-          }
-      go (some x) e = stopped-at x (run-first (b .paths) x (omega arith) e)
-
 -- ---- 3
 module _
-    (b : Batch) (lent : List Float) (one : 1 ≤ b .schedule .count)
-    (rows : length lent ≡ b .paths * b .schedule .count)
+    (b : Batch) (lent : List Float) (one : 1 ≤ b .simulation .schedule .count)
+    (rows : length lent ≡ b .paths * b .simulation .schedule .count)
   where
     -- the entry of row p and column j
     entry-is :
-        (q j : ℕ) → q < b .paths → j < b .schedule .count
+        (q j : ℕ) → q < b .paths → j < b .simulation .schedule .count
         → entry b (tableAfter b lent) (suc q) (suc j)
         ≡ entryAfter b (suc q) (suc j) (entry b lent (suc q) (suc j))
     unfolding tableAfter
     entry-is q j h l =
-        let n = b .schedule .count in
+        let n = b .simulation .schedule .count in
         getD-tabulate (length lent) (q * n + j) _ nan (rw rows (row-below q (b .paths) n j h l))
         ∙ rw (digits-div q l, digits-mod q l)
 
     reaches :
         (q j : ℕ) → runStop b q ≡ none
-        → stopWithin (walkOf b (suc q)) (lastStep (b .schedule) j) ≡ none → Reaches b (suc q) j
+        → stopWithin (walkOf b (suc q)) (lastStep (b .simulation .schedule) j) ≡ none → Reaches b (suc q) j
     reaches q j h l =
         record {
-          steps = stop-finite (walkOf b (suc q)) (lastStep (b .schedule) j) l;
+          steps = stop-finite (walkOf b (suc q)) (lastStep (b .simulation .schedule) j) l;
           paths = run-finite b q h;
         }
 
     kept : (q j : ℕ) (x : Float) → (Reaches b (suc q) j → ⊥) → entryAfter b (suc q) j x ≡ x
     kept q j x h =
-        go (runStop b q) (stopWithin (walkOf b (suc q)) (lastStep (b .schedule) j)) refl refl
+        go (runStop b q) (stopWithin (walkOf b (suc q)) (lastStep (b .simulation .schedule) j)) refl refl
       where
         go :
             (o : Option RunStop) (s : Option Stop) → runStop b q ≡ o
-            → stopWithin (walkOf b (suc q)) (lastStep (b .schedule) j) ≡ s
+            → stopWithin (walkOf b (suc q)) (lastStep (b .simulation .schedule) j) ≡ s
             → entryAfter b (suc q) j x ≡ x
         go none none e f = absurd (h (reaches q j e f))
         go none (some y) e f = entry-path b q j x y e f
@@ -215,7 +169,7 @@ module _
     table-long = length-tabulate (length lent) _
 
     observed :
-        (p j : ℕ) → OneTo (b .paths) p → OneTo (b .schedule .count) j → Reaches b p j
+        (p j : ℕ) → OneTo (b .paths) p → OneTo (b .simulation .schedule .count) j → Reaches b p j
         → entry b (tableAfter b lent) p j ≡ observation b p j
     observed zero j h l r = absurd (omega (arith, h .from))
     observed (suc q) zero h l r = absurd (omega (arith, l .from))
@@ -225,7 +179,7 @@ module _
         (finite-stop (walkOf b (suc q)) _ (r .steps))
 
     untouched :
-        (p j : ℕ) → OneTo (b .paths) p → OneTo (b .schedule .count) j → (Reaches b p j → ⊥)
+        (p j : ℕ) → OneTo (b .paths) p → OneTo (b .simulation .schedule .count) j → (Reaches b p j → ⊥)
         → entry b (tableAfter b lent) p j ≡ entry b lent p j
     untouched zero j h l r = absurd (omega (arith, h .from))
     untouched (suc q) zero h l r = absurd (omega (arith, l .from))
@@ -237,9 +191,9 @@ module _
 
 -- ---- the claim
 module _
-    (b : Batch) (laid : Laid (b .schedule)) (admitted : Admitted (b .kernel) (b .raw) (b .start))
-    (lent after : List Float) (answer : Run) (rows : length lent ≡ b .paths * b .schedule .count)
-    (a : answer ≡ runAnswer b) (t : after ≡ tableAfter b lent)
+    (b : Batch) (payoff : Payoff) (laid : Laid (b .simulation .schedule))
+    (admitted : Admitted (b .simulation)) (lent : List Float)
+    (rows : length lent ≡ b .paths * b .simulation .schedule .count)
   where
     walks : PlainWalks b
     unfolding stateAfter
@@ -250,15 +204,160 @@ module _
           sound = λ p k h l. walk-sound (walkOf b p) admitted k;
         }
 
-    pub run-claim : RunClaim b lent after answer
-    run-claim =
+    abbrev Claimed : Priced → Type 0
+    Claimed r = BatchClaim b payoff lent (tableAfter b lent) (answerOf b r)
+
+    -- a batch that stops
+    stopped :
+        (x : RunStop) → FirstFailure b (x .path) (x .stop .step) (x .stop .quantity)
+        → Claimed (pricedAt b payoff (some x))
+    stopped x first =
+        let fails : SomeStepFails b =
+        record {
+          path = x .path;
+          is-path = first .is-path;
+          step = x .stop .step;
+          is-step = first .is-step;
+          fails = finite-apart b (x .path) (x .stop .step) (x .stop .quantity) (first .fails);
+        } in
         record {
           walks = walks;
-          ends = subst (RunEnds b) (sym a) (ends b);
-          written = subst (Written b lent) (sym t) (written b lent (laid .some) rows);
+          exactly = ((λ h. fails), (λ h. refl));
+          names = λ h.
+              record {
+                path = x .path;
+                step = x .stop .step;
+                quantity = x .stop .quantity;
+                first = first;
+                taken = refl;
+                named = refl;
+                no-doubles = refl;
+                no-counts = refl;
+              };
+          otherwise = λ none. absurd (none fails);
+          written = written b lent (laid .some) rows;
         }
 
-    -- what a run ensures
-    pub with-claim :
-        (answer ≡ runAnswer b) × ((after ≡ tableAfter b lent) × RunClaim b lent after answer)
-    with-claim = (a, (t, run-claim))
+    -- the last observation of each path, by its column and by its step
+    abbrev seen : ℕ → Float
+    seen p = observation b p (b .simulation .schedule .count)
+
+    abbrev walked : ℕ → Float
+    walked p = b .observe (stateOf b p (b .simulation .schedule .total))
+
+    last-step : (p : ℕ) → seen p ≡ walked p
+    unfolding observation
+    last-step p = ap (λ (k : ℕ). b .observe (stateAfter (walkOf b p) k)) (laid .ends)
+
+    abbrev report : Estimates → Report
+    report estimates =
+        record {
+          estimates = estimates;
+          paths = b .paths;
+          «non_positive» = nonPositivePaths b (b .paths);
+          steps = b .paths * b .simulation .schedule .total;
+        }
+
+    abbrev refused : Refusal → Priced
+    refused = refusedAfter (b .paths * b .simulation .schedule .total)
+
+    -- a batch that goes through
+    done : runStop b (b .paths) ≡ none → Claimed (pricedAt b payoff none)
+    unfolding reportOf
+    done e =
+        let other : (answerOf b (pricedAt b payoff none) .number ≡ 22 → ⊥) =
+        reported-other (b .observed) payoff seen (b .paths) refused (λ x. Price (report x))
+        (λ r. answerOf b r .number ≡ 22 → ⊥) (λ r other. other) (λ x h. omega (arith, h)) in
+        record {
+          walks = walks;
+          exactly = (
+            (λ h. absurd (other h)),
+            (λ s.
+                absurd
+                (s .fails
+                (run-finite b (b .paths) e (s .path) (s .step) (s .is-path .from)
+                (omega (arith, s .is-path .upto)) (s .is-step)))),
+          );
+          names = λ h. absurd (other h);
+          otherwise = λ none.
+              reported-read (b .observed) payoff seen (b .paths) refused (λ x. Price (report x))
+              (answerOf b)
+              ∙ reported-same (b .observed) payoff seen walked (b .paths) (λ p l h. last-step p)
+              _ (λ x. pricedAnswer (b .observed) (report x));
+          written = written b lent (laid .some) rows;
+        }
+
+    -- what a batch answers meets its claim
+    pub batch-claim : Claimed (pricedRun b payoff)
+    unfolding pricedRun
+    batch-claim = go (runStop b (b .paths)) refl
+      where
+        go : (o : Option RunStop) → runStop b (b .paths) ≡ o → Claimed (pricedAt b payoff o)
+        go none e = done e
+        go (some x) e = stopped x (run-first b (b .paths) x (omega arith) e)
+
+    -- a batch that went through has written its last column
+    last-observed :
+        runStop b (b .paths) ≡ none
+        → SameUpTo (lastObservation (tableAfter b lent) (b .simulation .schedule .count)) seen
+        (b .paths)
+    unfolding observation
+    last-observed e p from upto =
+        let is-path : OneTo (b .paths) p = record { from = from; upto = upto } in
+        let count = b .simulation .schedule .count in
+        let column : OneTo count count = record { from = laid .some; upto = omega arith } in
+        let finite = run-finite b (b .paths) e in
+        observed b lent (laid .some) rows p count is-path column
+        (record {
+          steps = λ k h l.
+              finite p k from (omega arith) (record { from = h; upto = omega (arith, laid .ends) });
+          paths = λ r k h l is-step. finite r k h (omega arith) is-step;
+        })
+
+-- a run keeps the table's length
+pub run-long :
+    {b : Batch} {payoff : Payoff} {lent after : List Float} {r : Run}
+    → BatchRun b payoff lent after r → length after ≡ length lent
+unfolding tableAfter
+run-long {b} {payoff} {lent} h = ap length (h .table) ∙ length-tabulate (length lent) _
+
+-- ---- what is made of the run and of the last column is what is made of the plain walks
+module _
+    (handed : Handed) (draws : List Float) (payoff : Payoff) (laid : Laid (handed .simulation .schedule))
+    (admitted : Admitted (simulationInUse (handed .simulation))) (lent : List Float)
+    (rows : length lent ≡ handed .paths * handed .simulation .schedule .count)
+  where
+    abbrev batch : Batch
+    batch = batchOf handed draws
+
+    abbrev table : List Float
+    table = tableAfter batch lent
+
+    priced-is : pricedAfter (runAnswer batch payoff) handed table ≡ pricedRun batch payoff
+    unfolding runAnswer pricedRun pricedFrom reportedOf reported
+    priced-is = go (runStop batch (batch .paths)) refl
+      where
+        go :
+            (o : Option RunStop) → runStop batch (batch .paths) ≡ o
+            → pricedAfter (runAt batch payoff o) handed table ≡ pricedAt batch payoff o
+        go (some x) e = refl
+        go none e =
+            ap
+            (λ (q : List Question).
+            onceAsked (firstNo q) (refusedAfter (batch .paths * batch .simulation .schedule .total))
+            (reportedOf (walkedOf batch payoff) (batch .paths)))
+            (questions-same (batch .observed) _ _ (batch .paths)
+            (last-observed batch payoff (laid-in-use _ laid) admitted lent rows e))
+
+    pub batch-priced :
+        {after : List Float} {ran : Run} {r : Priced} → BatchRun batch payoff lent after ran
+        → r ≡ pricedAfter ran handed after → BatchPriced batch payoff lent after r
+    batch-priced {after} {ran} {r} run made =
+        let is : r ≡ pricedRun batch payoff = made ∙ rw (run .answer, run .table) priced-is in
+        record {
+          answer = is;
+          table = run .table;
+          claim =
+              rw (is, run .table)
+              (batch-claim batch payoff (laid-in-use _ laid) admitted lent rows);
+        }

@@ -1,7 +1,7 @@
 -- Rows of a table of `count` columns, one after another. Assumes nothing.
 use mathlib.Core.Path.{_≡_, sym}
-use Prim.Native.Nat.{ℕ, zero, suc, _+_, _*_, _-_, _≤_, _<_}
-use native.Mathlib.Nat.{mul-le-mul-right, suc-mul}
+use Prim.Native.Nat.{ℕ, zero, suc, _+_, _*_, _-_, _/_, _≤_, _<_}
+use native.Mathlib.Nat.{mul-le-mul-right, suc-mul, div-add-mod'}
 use native.Mathlib.Numerals.{sub-one}
 use native.Mathlib.Omega.{arith}
 
@@ -14,3 +14,8 @@ row-end (suc p) count h = rw sub-one (sym (suc-mul p count))
 pub row-inside : {path paths : ℕ} (count : ℕ) {long : ℕ} → path < paths → long ≡ paths * count → (path + 1) * count ≤ long
 row-inside {path} {paths} count here whole =
     omega (arith, mul-le-mul-right {m = path + 1} {n = paths} count (omega arith))
+
+-- and within a list that it is a whole row of
+pub row-within : {path : ℕ} (count long : ℕ) → path < long / count → (path + 1) * count ≤ long
+row-within {path} count long here =
+    omega (arith, mul-le-mul-right {m = path + 1} {n = long / count} count (omega arith), div-add-mod' long count)

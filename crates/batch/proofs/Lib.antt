@@ -2,9 +2,8 @@ pub mod Stops
 pub mod Turns
 pub mod Whole
 pub mod Claim
-pub mod Answers
 pub mod Columns
 pub mod Squared
-pub mod Values
 pub mod Groups
-pub mod Report
+pub mod Reporting
+pub mod Tallying

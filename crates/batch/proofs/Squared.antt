@@ -9,7 +9,7 @@ use Rattle.numeric.proofs.Above.{above-zero}
 use Rattle.refusal.specs.declared.Refusal.the-variants.{OnPath}
 use Rattle.refusal.specs.declared.Outcome.the-variants.{Passed, Refused}
 use Rattle.refusal.specs.Questions.{firstNo}
-use Rattle.batch.specs.Moments.{squaredQuestions}
+use Rattle.batch.specs.Report.{squaredQuestions}
 
 -- ---- the questions about path i + 1, whose last squared value is x
 module _ (squared : ℕ → Float) (i : ℕ) {x : Float} (value : x ≡ squared (i + 1)) where

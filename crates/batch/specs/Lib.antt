@@ -1,4 +1,4 @@
 pub mod Run
-pub mod Moments
+pub mod Report
 pub mod Claim
-pub mod RunClaim
+pub mod Inner

@@ -1,50 +1,36 @@
-// Batches of paths: the path and step loops, observations, moments and estimates.
-use refusal::Quantity;
+// Batches of paths: the path and step loops, observations, and what is made of them.
+use estimates::Estimates;
+use estimates::Tally;
+use refusal::Refusal;
 
 pub mod paths;
-pub mod welford;
+pub mod pricing;
+pub mod tally;
 
-// How a run of paths ended. Paths and steps count from 1; `steps` is how many were taken, a failing
-// one included.
+// What the paths of a batch come to where each of their steps is finite.
+pub struct Walked {
+    pub non_positive: u64,
+    pub steps: u64,
+    pub tally: Tally,
+}
+
+// How a run of paths ended. `steps` is how many were taken, a failing one included.
 pub enum Run {
-    Done {
-        steps: u64,
-        non_positive: u64,
-    },
-    NonFinite {
-        path: u64,
-        step: u64,
-        quantity: Quantity,
-        steps: u64,
-    },
+    Done(Walked),
+    NonFinite { refusal: Refusal, steps: u64 },
 }
 
-pub enum Style {
-    Call,
-    Put,
+// What a batch reports.
+pub struct Report {
+    pub estimates: Estimates,
+    pub paths: u64,
+    pub non_positive: u64,
+    pub steps: u64,
 }
 
-// A payoff with its strike as converted.
-pub enum Payoff {
-    Future,
-    Vanilla { style: Style, strike: f64 },
-}
-
-// The running mean and squared deviations of Welford's algorithm.
-pub struct Moments {
-    pub count: f64,
-    pub mean: f64,
-    pub squared_deviations: f64,
-}
-
-// A mean and its standard error.
-pub struct Estimate {
-    pub mean: f64,
-    pub error: f64,
-}
-
-// The estimates of a batch: of the payoff, and of the terminal spot or the index.
-pub struct Estimates {
-    pub payoff: Estimate,
-    pub underlying: Estimate,
+// What pricing a batch answers: its report, or the first question that got a No, with the steps
+// taken by then.
+pub enum Priced {
+    Price(Report),
+    Refused { refusal: Refusal, steps: u64 },
 }

@@ -1,54 +1,44 @@
 // The path and step loops.
-ghost use mathlib.Core.Path.{_≡_};
-ghost use Rattle.model.specs.Inner.InUse.{kernelInUse, stateInUse};
-ghost use Rattle.model.specs.Inner.Admitted.{Admitted};
-ghost use Rattle.walks.specs.Batch.{batchOf};
-ghost use Rattle.batch.specs.Run.{Prepared, runAnswer, tableAfter};
-ghost use Rattle.batch.specs.RunClaim.{RunClaim};
+ghost use Rattle.walks.specs.Inner.Handed.{batchOf};
+ghost use Rattle.batch.specs.Inner.Handed.{Prepared, BatchRun};
 use crate::Run;
+use crate::Walked;
+use crate::tally;
+use estimates::Payoff;
+use estimates::welford;
 use groups::Together;
 use model::Finiteness;
-use model::Kernel;
-use model::RawParams;
-use model::Schedule;
-use model::State;
 use model::scheme;
-use vix::Vix;
-use walks::Observed;
+use refusal::Refusal;
+use walks::Batch;
 
-// Every path in turn, step by step, up to the first step that is not finite. `seen` has a row a
-// path and a column a segment. Four paths at a time are walked side by side where that is sure to
-// give what the plain loop gives; a group of which that cannot be said goes through the plain loop.
-pub fn run_paths(
-    k: Kernel,
-    p: RawParams,
-    start: State,
-    sched: Schedule,
-    observed: Observed,
-    form: Vix,
-    mirrored: bool,
-    paths: usize,
-    draws: &[f64],
-    seen: &mut [f64],
-) -> Run
-    requires { ⌜ Prepared k sched form mirrored paths (now draws) (now seen) ⌝ }
-    requires { ⌜ Admitted (kernelInUse k) p (stateInUse (k .n) start) ⌝ }
-    ensures answer { λ r. ⌜ r
-        ≡ runAnswer (batchOf k p start sched observed form mirrored paths (now (draws .entry))) ⌝ }
-    ensures table { λ r. ⌜ now (seen .exit) ≡ tableAfter
-        (batchOf k p start sched observed form mirrored paths (now (draws .entry)))
-        (now (seen .entry)) ⌝ }
-    ensures claim { λ r. ⌜ RunClaim
-        (batchOf k p start sched observed form mirrored paths (now (draws .entry)))
-        (now (seen .entry)) (now (seen .exit)) r ⌝ }
+// Every path in turn, step by step, up to the first step that is not finite. `observations` has a
+// row a path and a column a segment. Four paths at a time are walked side by side where that is
+// sure to give what the plain loop gives; a group of which that cannot be said goes through the
+// plain loop. What a path shows the payoff is added as the path ends.
+pub fn run_paths(batch: Batch, payoff: Payoff, draws: &[f64], observations: &mut [f64]) -> Run
+    requires { ⌜ Prepared batch (now draws) (now observations) ⌝ }
+    ensures { λ r. ⌜ BatchRun (batchOf batch (now (draws .entry))) payoff
+        (now (observations .entry)) (now (observations .exit)) r ⌝ }
 {
+    let mirrored = batch.mirrored;
+    let paths = batch.paths;
+    let observation = batch.observation;
+    let observed = observation.observed;
+    let simulation = batch.simulation;
+    let k = simulation.kernel;
+    let p = simulation.raw;
+    let start = simulation.start;
+    let sched = simulation.schedule;
     let total = sched.total;
     let count = sched.count;
     let first = scheme::rates_at(k, sched, 0);
-    let mut failed = Run::Done {
-        steps: 0,
+    let mut sums = welford::no_paths();
+    let mut failed = Run::Done(Walked {
         non_positive: 0,
-    };
+        steps: 0,
+        tally: sums,
+    });
     let mut steps: u64 = 0;
     let mut non_positive: u64 = 0;
     let mut path: usize = 0;
@@ -56,20 +46,10 @@ pub fn run_paths(
     'paths: while path < paths {
         if next_group <= path && path + 4 <= paths {
             let mut rows = [0.0; 256];
-            match groups::walk_four(
-                k,
-                p,
-                start,
-                sched,
-                observed,
-                form,
-                mirrored,
-                path,
-                draws,
-                &mut rows[..],
-            ) {
+            match groups::walk_four(batch, path, draws, &mut rows[..]) {
                 Together::Walked { non_positive: fell } => {
-                    groups::write_rows(&rows[..4 * count], path * count, seen);
+                    groups::write_rows(&rows[..4 * count], path * count, observations);
+                    sums = tally::with_rows(sums, payoff, observed, &rows[..4 * count], count);
                     steps += 4 * (total as u64);
                     non_positive += fell;
                     path += 4;
@@ -94,9 +74,12 @@ pub fn run_paths(
                 Finiteness::NonFinite(quantity) => {
                     let number = path as u64 + 1;
                     failed = Run::NonFinite {
-                        path: number,
-                        step: at as u64,
-                        quantity: quantity,
+                        refusal: Refusal::NonFinite {
+                            path: number,
+                            step: at as u64,
+                            quantity: quantity,
+                            steps: steps,
+                        },
                         steps: steps,
                     };
                     break 'paths;
@@ -107,7 +90,7 @@ pub fn run_paths(
                 low = true;
             }
             if at == sched.last[segment] {
-                seen[path * count + segment] = walks::observe(observed, form, s);
+                observations[path * count + segment] = walks::observe(observation, s);
                 segment += 1;
                 rates = scheme::rates_at(k, sched, segment);
             }
@@ -115,13 +98,17 @@ pub fn run_paths(
         if low {
             non_positive += 1;
         }
+        let begin = path * count;
+        let end = begin + count;
+        sums = tally::with_rows(sums, payoff, observed, &observations[begin..end], count);
         path += 1;
     }
     if path < paths {
         return failed;
     }
-    Run::Done {
-        steps: steps,
+    Run::Done(Walked {
         non_positive: non_positive,
-    }
+        steps: steps,
+        tally: sums,
+    })
 }

@@ -25,13 +25,13 @@ pub record Batch : Type 0 where
 abbrev pub walkOf : Batch → ℕ → Walk
 walkOf b p = record { simulation = b .simulation; draw = b .draw p }
 
--- Rules 9.2 and 9.3: where the draw of step k of path p stands among those lent, from 0; in a
+-- Rule 9.2: where the draw of step k of path p stands among those lent, from 0; in a
 -- mirrored batch paths 2i - 1 and 2i share theirs
 abbrev pub drawPlace : Bool → ℕ → ℕ → ℕ → ℕ
 drawPlace true total p k = pred p / 2 * total + pred k
 drawPlace false total p k = pred p * total + pred k
 
--- Rule 9.3: and path 2i has them negated
+-- Rule 9.2: and path 2i has them negated
 abbrev pub negatedIf : Bool → Float → Float
 negatedIf true g = neg g
 negatedIf false g = g
@@ -40,18 +40,18 @@ abbrev pub drawOf : Bool → List Float → ℕ → ℕ → ℕ → Float
 drawOf true draws total p k = negatedIf (eqb (p % 2) 0) (getD draws (drawPlace true total p k) nan)
 drawOf false draws total p k = getD draws (drawPlace false total p k) nan
 
--- Rules 9.2 and 9.3: how many draws a batch needs
+-- Rule 9.3: how many draws a batch needs
 abbrev pub drawsNeeded : Bool → ℕ → ℕ → ℕ
 drawsNeeded true paths total = paths / 2 * total
 drawsNeeded false paths total = paths * total
 
--- Rule 9.6: whether a spot is at or below zero after one of the first k steps
+-- Rule 9.7: whether a spot is at or below zero after one of the first k steps
 unfoldable pub nonPositiveBy : Walk → ℕ → Bool
 unfolding stateAfter le
 nonPositiveBy w zero = false
 nonPositiveBy w (suc k) = nonPositiveBy w k || le (stateAfter w (suc k) .spot) plusZero
 
--- how many of the first n paths are non-positive
+-- Rule 9.7: how many of the first n paths are non-positive
 unfoldable pub nonPositivePaths : Batch → ℕ → ℕ
 unfolding nonPositiveBy
 nonPositivePaths b zero = 0

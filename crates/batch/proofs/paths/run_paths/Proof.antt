@@ -5,7 +5,7 @@ use mathlib.Core.Bool.{_||_}
 use mathlib.Core.List.{List}
 use mathlib.Core.Logic.{⊎-elim}
 use Prim.Native.Nat.{ℕ, suc, _+_, _*_, _-_, _<_, _≤_}
-use native.Mathlib.Nat.{le-trans, le-of-eq}
+use native.Mathlib.Nat.{le-trans, le-of-eq, mul-le-mul}
 use native.Mathlib.Omega.{arith}
 use lib.Dec.{T, leb→le}
 use borrow.Author.Needs.{needs}
@@ -22,34 +22,39 @@ use Rattle.model.specs.Step.{step, finiteness}
 use Rattle.model.specs.Inner.InUse.{kernelInUse, stateInUse}
 use Rattle.model.proofs.Laws.{rates-own}
 use Rattle.model.proofs.Containment.{laid-in-use, reached-open}
-use Rattle.walks.specs.Batch.{batchOf, drawOf}
+use Rattle.walks.specs.Batch.{Batch, drawOf}
+use Rattle.walks.specs.Inner.Handed.{batchOf}
 use Rattle.numeric.proofs.Doubles.{zero-is}
+use Rattle.walks.proofs.Cells.{row-last}
 use Rattle.walks.proofs.Flags.{raised, left-low, count-up, count-left}
 use Rattle.walks.proofs.Handed.{finite-in-use, draws-within, observed-in-use, step-in-use}
-use Rattle.batch.proofs.Turns.{Inner, Outer, Small, small, turn-first, next-state, turn-on, turn-write, path-first, path-next, run-ends, entries-end, run-done, entries-done}
+use Rattle.batch.proofs.Turns.{Inner, Outer, Small, small, turn-first, next-state, turn-on, turn-write, path-first, path-tallied, path-next, run-ends, entries-end, run-done, entries-done}
 use Rattle.groups.specs.declared.Together.{Together}
 use Rattle.groups.specs.Inner.Group.{Walks, FourWalked}
-use Rattle.batch.proofs.Groups.{SmallGroup, small-group, path-four}
+use Rattle.batch.proofs.Groups.{SmallGroup, small-group, four-tallied, path-four}
+use Rattle.estimates.specs.declared.Payoff.{Payoff}
+use Rattle.batch.specs.declared.Run.{Run}
+use Rattle.batch.specs.Run.{tableAfter}
+use Rattle.batch.specs.Inner.Handed.{runAnswer, BatchRun}
 use Rattle.batch.proofs.Whole.{whole}
-use Rattle.batch.proofs.Claim.{with-claim}
 use Rattle.batch.proofs.paths.run_paths.Statement.{statement}
 use Rattle.batch.proofs.paths.run_paths.Tie as tie
 
 abbrev Inv-loop : tie.InvT-loop
-Inv-loop k p start observed form mirrored paths draws seen₀ sched total count first failed₀ steps₀ non-positive path next-group s₀ rates₀ segment₀ at₀ low₀ seen failed steps s rates segment at low =
-    Inner (batchOf k p start sched observed form mirrored paths draws) path seen₀ seen steps segment at (stateInUse (k .n) s) low
-    × RatesOf k (getD (sched .dt) segment nan) (getD (sched .«sqrt_dt») segment nan) rates
+Inv-loop batch payoff draws observations₀ mirrored paths observation observed k p start sched total count first sums failed₀ steps₀ non-positive path next-group s₀ rates₀ segment₀ at₀ low₀ observations failed steps s rates segment at low =
+    Inner (batchOf batch draws) path observations₀ observations steps segment at (stateInUse (batch .simulation .kernel .n) s) low
+    × RatesOf (batch .simulation .kernel) (getD (batch .simulation .schedule .dt) segment nan) (getD (batch .simulation .schedule .«sqrt_dt») segment nan) rates
 
 abbrev μ-loop : tie.MeasureT-loop
-μ-loop k p start observed form mirrored paths draws seen₀ sched total count first failed₀ steps₀ non-positive path next-group s₀ rates₀ segment₀ at₀ low₀ seen failed steps s rates segment at low =
+μ-loop batch payoff draws observations₀ mirrored paths observation observed k p start sched total count first sums failed₀ steps₀ non-positive path next-group s₀ rates₀ segment₀ at₀ low₀ observations failed steps s rates segment at low =
     total - at
 
 abbrev Inv-paths : tie.InvT-paths
-Inv-paths k p start observed form mirrored paths draws seen₀ sched total count first failed₀ steps₀ non-positive₀ path₀ next-group₀ seen failed steps non-positive path next-group =
-    Outer (batchOf k p start sched observed form mirrored paths draws) seen₀ seen steps non-positive path
+Inv-paths batch payoff draws observations₀ mirrored paths observation observed k p start sched total count first sums₀ failed₀ steps₀ non-positive₀ path₀ next-group₀ observations sums failed steps non-positive path next-group =
+    Outer (batchOf batch draws) payoff observations₀ observations steps non-positive path sums
 
 abbrev μ-paths : tie.MeasureT-paths
-μ-paths k p start observed form mirrored paths draws seen₀ sched total count first failed₀ steps₀ non-positive₀ path₀ next-group₀ seen failed steps non-positive path next-group =
+μ-paths batch payoff draws observations₀ mirrored paths observation observed k p start sched total count first sums₀ failed₀ steps₀ non-positive₀ path₀ next-group₀ observations sums failed steps non-positive path next-group =
     paths - path
 
 -- ---- the places of the code that the answers name: the entry, a turn of the path loop, a turn of the step loop, the step taken, and the flag set after it
@@ -69,8 +74,11 @@ Stepped = tie.After-step Inv-loop μ-loop Inv-paths μ-paths
 abbrev Flagged : Type 0
 Flagged = tie.Joined3 Inv-loop μ-loop Inv-paths μ-paths
 
+abbrev given-at : tie.After-sched Inv-loop μ-loop Inv-paths μ-paths → Entry
+given-at c = c .before .before .before .before .before .before .before .before
+
 abbrev entry : Path → Entry
-entry c = c .before .before .before .before .before
+entry c = given-at (c .before .before .before .before)
 
 abbrev path-of : Turn → Path
 path-of c = c .before .before .before
@@ -81,24 +89,28 @@ turn-of c = c .before .before
 abbrev step-of : Flagged → Stepped
 step-of c = c .before .before .before .before .before
 
-laid-at : (c : Entry) → Laid (scheduleInUse (c .args .t4))
-laid-at c = laid-in-use (c .args .t4) (c .pre .0 .laid)
+laid-at : (c : Entry) → Laid (scheduleInUse (c .args .batch .simulation .schedule))
+laid-at c = laid-in-use (c .args .batch .simulation .schedule) (c .pre .laid)
 
 -- ---- before the loops
 
 rates-at-requires : tie.Need-rates-at-requires Inv-loop μ-loop Inv-paths μ-paths
-rates-at-requires c κs = c .before .before .pre .0 .few
+rates-at-requires c κs = given-at c .pre .admitted .few
+
+no-paths-requires : tie.Need-no-paths-requires Inv-loop μ-loop Inv-paths μ-paths
+no-paths-requires c κs = search needs
 
 paths-holds : tie.Need-paths-holds Inv-loop μ-loop Inv-paths μ-paths
-paths-holds c = path-first (laid-at (c .before .before .before)) (c .before .before .before .pre .0 .rows)
+paths-holds c =
+    path-first (laid-at (given-at (c .before .before))) (given-at (c .before .before) .pre .rows) (c .no-paths .ensures)
 
 -- ---- a group of four paths
 
-within : (c : tie.Then2 Inv-loop μ-loop Inv-paths μ-paths) → c .before .before .before .paths .path + 4 ≤ entry (c .before .before) .args .paths
+within : (c : tie.Then2 Inv-loop μ-loop Inv-paths μ-paths) → c .before .before .before .paths .path + 4 ≤ entry (c .before .before) .args .batch .paths
 within c = leb→le _ _ (subst T (sym (c .if2 .taken)) tt)
 
 add-if2 : tie.Need-add-if2 Inv-loop μ-loop Inv-paths μ-paths
-add-if2 c = omega (arith, c .before .paths-test .taken, entry (c .before) .pre .0 .most)
+add-if2 c = omega (arith, c .before .paths-test .taken, entry (c .before) .pre .most)
 
 slice-aggregate-walk-four : tie.Need-slice-aggregate-walk-four Inv-loop μ-loop Inv-paths μ-paths
 slice-aggregate-walk-four c = refl
@@ -106,13 +118,13 @@ slice-aggregate-walk-four c = refl
 walk-four-requires : tie.Need-walk-four-requires Inv-loop μ-loop Inv-paths μ-paths
 walk-four-requires c κs =
     let path : Path = c .before .before .before in
-    let given = entry path .pre .0 in
+    let given = entry path .pre in
     record {
-      few = given .few;
+      few = given .admitted .few;
       form = given .form;
       laid = given .laid;
       most = omega (arith, path .paths-test .taken, given .most);
-      drawn = λ l h. rw (given .drawn) (draws-within (entry path .args .mirrored) _ _ _ (given .pairs) (omega (arith, within (c .before))));
+      drawn = λ l h. rw (given .drawn) (draws-within (entry path .args .batch .mirrored) _ _ _ (given .pairs) (omega (arith, within (c .before))));
       rows-long = refl;
     }
 
@@ -134,28 +146,28 @@ module _ (c : Group) where
   given-group = entry (path-of-group c)
 
   abbrev rows : List Float
-  rows = c .before .before .before .before .walk-four .last .1 .1 .1 .1 .1 .1 .1 .1 .1 .0
+  rows = c .before .before .before .before .walk-four .last .1 .1 .1 .0
 
-  group-within : path-of-group c .before .paths .path + 4 ≤ given-group .args .paths
+  group-within : path-of-group c .before .paths .path + 4 ≤ given-group .args .batch .paths
   group-within = within (c .before .before .before .before .before .before)
 
   -- its numbers
-  group-small : SmallGroup (path-of-group c .before .paths .path) (given-group .args .t4 .total) (given-group .args .t4 .count) (length (path-of-group c .before .paths .seen))
+  group-small : SmallGroup (path-of-group c .before .paths .path) (given-group .args .batch .simulation .schedule .total) (given-group .args .batch .simulation .schedule .count) (length (path-of-group c .before .paths .observations))
   group-small =
-      let given = given-group .pre .0 in
+      let given = given-group .pre in
       small-group _ _ _ _ _ (given .most) (given .laid .short) (given .laid .few) group-within (path-of-group c .before .paths .inv .long)
 
   -- and its walks
-  walked : FourWalked (batchOf (given-group .args .k) (given-group .args .p) (given-group .args .start) (given-group .args .t4) (given-group .args .observed) (given-group .args .form) (given-group .args .mirrored) (given-group .args .paths) (given-group .args .draws .now)) (path-of-group c .before .paths .path) rows (c .before .fell .given .0 .0)
+  walked : FourWalked (batchOf (given-group .args .batch) (given-group .args .draws .now)) (path-of-group c .before .paths .path) rows (c .before .fell .given .0 .0)
   walked =
       let e = given-group in
-      subst (λ (r : Together). Walks (batchOf (e .args .k) (e .args .p) (e .args .start) (e .args .t4) (e .args .observed) (e .args .form) (e .args .mirrored) (e .args .paths) (e .args .draws .now)) (path-of-group c .before .paths .path) rows r)
-      (c .before .fell .given .1) (c .before .before .before .before .walk-four .ensures .1 (e .args .paths))
+      subst (λ (r : Together). Walks (batchOf (e .args .batch) (e .args .draws .now)) (path-of-group c .before .paths .path) rows r)
+      (c .before .fell .given .1) (c .before .before .before .before .walk-four .ensures .1)
 
-  rows-fit : 4 * given-group .args .t4 .count ≤ length rows
+  rows-fit : 4 * given-group .args .batch .simulation .schedule .count ≤ length rows
   rows-fit = le-trans (group-small .rows) (le-of-eq (sym (c .before .before .before .before .walk-four .ensures .0)))
 
-  part-long : length (take (4 * given-group .args .t4 .count) rows) ≡ 4 * given-group .args .t4 .count
+  part-long : length (take (4 * given-group .args .batch .simulation .schedule .count) rows) ≡ 4 * given-group .args .batch .simulation .schedule .count
   part-long = length-take-le _ _ rows-fit
 
 mul-rows : tie.Need-mul-rows Inv-loop μ-loop Inv-paths μ-paths
@@ -174,62 +186,80 @@ write-rows-requires : tie.Need-write-rows-requires Inv-loop μ-loop Inv-paths μ
 write-rows-requires c κs =
     let group : Group = c .before .before in
     let path : Path = path-of-group group in
-    subst (λ (x : ℕ). path .before .paths .path * entry path .args .t4 .count + x ≤ length (path .before .paths .seen))
+    subst (λ (x : ℕ). path .before .paths .path * entry path .args .batch .simulation .schedule .count + x ≤ length (path .before .paths .observations))
     (sym (part-long group)) (group-small group .cells)
 
+-- what the rows of the group show the payoff
+mul-rows-2 : tie.Need-mul-rows-2 Inv-loop μ-loop Inv-paths μ-paths
+mul-rows-2 c = omega (arith, group-small (group-of c))
+
+array-share-prefix-rows-2 : tie.Need-array-share-prefix-rows-2 Inv-loop μ-loop Inv-paths μ-paths
+array-share-prefix-rows-2 c = rows-fit (group-of c)
+
+slice-aggregate-with-rows : tie.Need-slice-aggregate-with-rows Inv-loop μ-loop Inv-paths μ-paths
+slice-aggregate-with-rows c = sym (part-long (group-of (c .before)))
+
+with-rows-requires : tie.Need-with-rows-requires Inv-loop μ-loop Inv-paths μ-paths
+with-rows-requires c κs = given-group (group-of (c .before)) .pre .laid .some
+
+abbrev tallied-of : tie.After-with-rows Inv-loop μ-loop Inv-paths μ-paths → Group
+tallied-of c = group-of (c .before .before)
+
 mul-steps : tie.Need-mul-steps Inv-loop μ-loop Inv-paths μ-paths
-mul-steps c = omega (arith, group-small (group-of c))
+mul-steps c = omega (arith, group-small (tallied-of c))
 
 add-steps : tie.Need-add-steps Inv-loop μ-loop Inv-paths μ-paths
-add-steps c = omega (arith, group-small (group-of c), path-of-group (group-of c) .before .paths .inv .counted)
+add-steps c = omega (arith, group-small (tallied-of c), path-of-group (tallied-of c) .before .paths .inv .counted)
 
 add-non-positive : tie.Need-add-non-positive Inv-loop μ-loop Inv-paths μ-paths
 add-non-positive c =
-    let group : Group = group-of c in
+    let group : Group = tallied-of c in
     let before = path-of-group group .before .paths .inv in
-    omega (arith, walked group .few, before .few, before .most, given-group group .pre .0 .most)
+    omega (arith, walked group .few, before .few, before .most, given-group group .pre .most)
 
 add-path : tie.Need-add-path Inv-loop μ-loop Inv-paths μ-paths
-add-path c = let group : Group = group-of c in omega (arith, group-within group, given-group group .pre .0 .most)
+add-path c = let group : Group = tallied-of c in omega (arith, group-within group, given-group group .pre .most)
 
 paths-less : tie.Need-paths-less Inv-loop μ-loop Inv-paths μ-paths
-paths-less c = let group : Group = group-of c in omega (arith, group-within group)
+paths-less c = let group : Group = tallied-of c in omega (arith, group-within group)
 
 paths-again : tie.Need-paths-again Inv-loop μ-loop Inv-paths μ-paths
 paths-again c =
-    let group : Group = group-of c in
-    path-four (path-of-group group .before .paths .inv) (group-within group) (walked group) _ (rows-fit group) (c .before .before .write-rows .ensures) _ _ refl refl
+    let group : Group = tallied-of c in
+    let before = path-of-group group .before .paths .inv in
+    path-four before (group-within group) (walked group) _ (rows-fit group) (c .before .before .before .before .write-rows .ensures) _ _ _ refl refl
+    (four-tallied before (group-within group) (walked group) (rows-fit group) (given-group group .pre .laid .some) (c .with-rows .ensures))
 
 enum-told : tie.Need-enum-told Inv-loop μ-loop Inv-paths μ-paths
 enum-told c = search needs
 
 add-next-group : tie.Need-add-next-group Inv-loop μ-loop Inv-paths μ-paths
 add-next-group c =
-    let path : Path = c .before .before .before .before .before .before .before in omega (arith, path .paths-test .taken, entry path .pre .0 .most)
+    let path : Path = c .before .before .before .before .before .before .before in omega (arith, path .paths-test .taken, entry path .pre .most)
 
 -- ---- a path begins
 
 loop-holds : tie.Need-loop-holds Inv-loop μ-loop Inv-paths μ-paths
 loop-holds c =
     let path : Path = c .before in
-    (turn-first (laid-at (entry path)) (path .before .paths .inv .counted) (path .before .paths .inv .long), path .before .before .rates-at .ensures)
+    (turn-first (laid-at (entry path)) (path .before .paths .inv .counted) (path .before .paths .inv .long), path .before .before .before .rates-at .ensures)
 
 -- ---- a step: what it asks
 
-small-at : (c : Turn) → Small (entry (path-of c) .args .paths) (path-of c .before .paths .path) (entry (path-of c) .args .t4 .total) (entry (path-of c) .args .t4 .count) (c .before .loop .segment) (c .before .loop .at)
+small-at : (c : Turn) → Small (entry (path-of c) .args .batch .paths) (path-of c .before .paths .path) (entry (path-of c) .args .batch .simulation .schedule .total) (entry (path-of c) .args .batch .simulation .schedule .count) (c .before .loop .segment) (c .before .loop .at)
 small-at c =
-    small (laid-at (entry (path-of c))) (c .before .loop .inv .0) (entry (path-of c) .pre .0 .most) (path-of c .paths-test .taken) (c .loop-test .taken)
+    small (laid-at (entry (path-of c))) (c .before .loop .inv .0) (entry (path-of c) .pre .most) (path-of c .paths-test .taken) (c .loop-test .taken)
 
 draw-at-requires : tie.Need-draw-at-requires Inv-loop μ-loop Inv-paths μ-paths
 draw-at-requires c κs = (
   c .loop-test .taken,
-  rw (entry (path-of c) .pre .0 .drawn)
-      (draws-within (entry (path-of c) .args .mirrored) _ _ _ (entry (path-of c) .pre .0 .pairs) (path-of c .paths-test .taken)),
+  rw (entry (path-of c) .pre .drawn)
+      (draws-within (entry (path-of c) .args .batch .mirrored) _ _ _ (entry (path-of c) .pre .pairs) (path-of c .paths-test .taken)),
 )
 
 step-requires : tie.Need-step-requires Inv-loop μ-loop Inv-paths μ-paths
 step-requires c κs =
-    (entry (path-of (c .before)) .pre .0 .few, rates-own (entry (path-of (c .before)) .args .k) _ _ _ (c .before .before .loop .inv .1))
+    (entry (path-of (c .before)) .pre .admitted .few, rates-own (entry (path-of (c .before)) .args .batch .simulation .kernel) _ _ _ (c .before .before .loop .inv .1))
 
 add-at : tie.Need-add-at Inv-loop μ-loop Inv-paths μ-paths
 add-at c = omega (arith, small-at (turn-of c))
@@ -257,31 +287,31 @@ element-copy-out-if4 c = omega (arith, small-at (turn-of (step-of c)))
 
 observe-requires : tie.Need-observe-requires Inv-loop μ-loop Inv-paths μ-paths
 observe-requires c κs =
-    let given = entry (path-of (turn-of (step-of (c .before .before)))) .pre .0 in omega (arith, given .form, given .few)
+    let given = entry (path-of (turn-of (step-of (c .before .before)))) .pre in omega (arith, given .form, given .admitted .few)
 
-mul-seen : tie.Need-mul-seen Inv-loop μ-loop Inv-paths μ-paths
-mul-seen c = omega (arith, small-at (turn-of (step-of (c .before .before .before))))
+mul-observations : tie.Need-mul-observations Inv-loop μ-loop Inv-paths μ-paths
+mul-observations c = omega (arith, small-at (turn-of (step-of (c .before .before .before))))
 
-add-seen : tie.Need-add-seen Inv-loop μ-loop Inv-paths μ-paths
-add-seen c = omega (arith, small-at (turn-of (step-of (c .before .before .before))))
+add-observations : tie.Need-add-observations Inv-loop μ-loop Inv-paths μ-paths
+add-observations c = omega (arith, small-at (turn-of (step-of (c .before .before .before))))
 
-mul-seen-2 : tie.Need-mul-seen-2 Inv-loop μ-loop Inv-paths μ-paths
-mul-seen-2 c = omega (arith, small-at (turn-of (step-of (c .before .before .before))))
+mul-observations-2 : tie.Need-mul-observations-2 Inv-loop μ-loop Inv-paths μ-paths
+mul-observations-2 c = omega (arith, small-at (turn-of (step-of (c .before .before .before))))
 
-slice-write-seen : tie.Need-slice-write-seen Inv-loop μ-loop Inv-paths μ-paths
-slice-write-seen c =
+slice-write-observations : tie.Need-slice-write-observations Inv-loop μ-loop Inv-paths μ-paths
+slice-write-observations c =
     let turn = turn-of (step-of (c .before .before .before)) in omega (arith, small-at turn, turn .before .loop .inv .0 .long)
 
 add-segment : tie.Need-add-segment Inv-loop μ-loop Inv-paths μ-paths
 add-segment c = omega (arith, small-at (turn-of (step-of (c .before .before .before))))
 
 rates-at-requires-2 : tie.Need-rates-at-requires-2 Inv-loop μ-loop Inv-paths μ-paths
-rates-at-requires-2 c κs = entry (path-of (turn-of (step-of (c .before .before .before)))) .pre .0 .few
+rates-at-requires-2 c κs = entry (path-of (turn-of (step-of (c .before .before .before)))) .pre .admitted .few
 
 -- ---- a step: what it leaves
 
 -- the segment that contains it
-open-at : (c : Turn) → c .before .loop .segment < entry (path-of c) .args .t4 .count
+open-at : (c : Turn) → c .before .loop .segment < entry (path-of c) .args .batch .simulation .schedule .count
 open-at c = reached-open _ (laid-at (entry (path-of c))) _ _ (c .before .loop .inv .0 .reached) (c .loop-test .taken)
 
 -- the state is that of the plain walk
@@ -289,14 +319,14 @@ module _ (c : Stepped) where
   abbrev given : Entry
   given = entry (path-of (turn-of c))
 
-  stepped : stateInUse (given .args .k .n) (c .step .result) ≡ step (kernelInUse (given .args .k)) (given .args .p) (stateInUse (given .args .k .n) (turn-of c .before .loop .s)) (drawOf (given .args .mirrored) (given .args .draws .now) (given .args .t4 .total) (suc (path-of (turn-of c) .before .paths .path)) (suc (turn-of c .before .loop .at))) (dtAt (scheduleInUse (given .args .t4)) (suc (turn-of c .before .loop .at))) (sqrtDtAt (scheduleInUse (given .args .t4)) (suc (turn-of c .before .loop .at)))
+  stepped : stateInUse (given .args .batch .simulation .kernel .n) (c .step .result) ≡ step (kernelInUse (given .args .batch .simulation .kernel)) (given .args .batch .simulation .raw) (stateInUse (given .args .batch .simulation .kernel .n) (turn-of c .before .loop .s)) (drawOf (given .args .batch .mirrored) (given .args .draws .now) (given .args .batch .simulation .schedule .total) (suc (path-of (turn-of c) .before .paths .path)) (suc (turn-of c .before .loop .at))) (dtAt (scheduleInUse (given .args .batch .simulation .schedule)) (suc (turn-of c .before .loop .at))) (sqrtDtAt (scheduleInUse (given .args .batch .simulation .schedule)) (suc (turn-of c .before .loop .at)))
   stepped =
-      step-in-use (given .args .t4) (given .pre .0 .laid) _ _ (turn-of c .before .loop .inv .0 .reached) (open-at (turn-of c)) (given .args .k) (turn-of c .before .loop .rates) (turn-of c .before .loop .inv .1) _ _ _ _ _ _ (c .before .draw-at .ensures) (c .step .ensures)
+      step-in-use (given .args .batch .simulation .schedule) (given .pre .laid) _ _ (turn-of c .before .loop .inv .0 .reached) (open-at (turn-of c)) (given .args .batch .simulation .kernel) (turn-of c .before .loop .rates) (turn-of c .before .loop .inv .1) _ _ _ _ _ _ (c .before .draw-at .ensures) (c .step .ensures)
 
 module _ (c : Flagged) where
-  finite-now : finiteness (stateInUse (given (step-of c) .args .k .n) (step-of c .step .result)) ≡ Finite
+  finite-now : finiteness (stateInUse (given (step-of c) .args .batch .simulation .kernel .n) (step-of c .step .result)) ≡ Finite
   finite-now =
-      finite-in-use (given (step-of c) .args .k .n) (step-of c .step .result) ∙ sym (c .before .before .before .before .ensure-finite .ensures)
+      finite-in-use (given (step-of c) .args .batch .simulation .kernel .n) (step-of c .step .result) ∙ sym (c .before .before .before .before .ensure-finite .ensures)
       ∙ c .before .before .enum-told2 .given .1
 
   -- the flag of a non-positive path
@@ -307,9 +337,9 @@ module _ (c : Flagged) where
       ⊎-elim (λ w. raised low _ _ (zero ∙ w .0 .taken) (w .1)) (λ w. left-low low _ _ (zero ∙ w .0 .left) (w .1)) (c .if3 .came)
 
   -- the last step of the segment
-  last-now : getD (given (step-of c) .args .t4 .last) (turn-of (step-of c) .before .loop .segment) 0 ≡ lastStep (scheduleInUse (given (step-of c) .args .t4)) (suc (turn-of (step-of c) .before .loop .segment))
+  last-now : getD (given (step-of c) .args .batch .simulation .schedule .last) (turn-of (step-of c) .before .loop .segment) 0 ≡ lastStep (scheduleInUse (given (step-of c) .args .batch .simulation .schedule)) (suc (turn-of (step-of c) .before .loop .segment))
   last-now =
-      let sched = given (step-of c) .args .t4 in sym (getD-take (sched .count) (sched .last) _ 0 (open-at (turn-of (step-of c))))
+      let sched = given (step-of c) .args .batch .simulation .schedule in sym (getD-take (sched .count) (sched .last) _ 0 (open-at (turn-of (step-of c))))
 
 loop-less : tie.Need-loop-less Inv-loop μ-loop Inv-paths μ-paths
 loop-less c = omega arith
@@ -322,7 +352,7 @@ loop-again c =
     let handed : Entry = entry (path-of turn) in (
       turn-write (laid-at handed) (turn .before .loop .inv .0) (turn .loop-test .taken) (stepped (step-of flagged)) (finite-now flagged)
           (low-now flagged) (path-of turn .paths-test .taken) (c .before .before .if4 .taken ∙ last-now flagged)
-          (c .before .observe .ensures ∙ observed-in-use (handed .args .observed) (handed .args .form) (handed .args .k .n) (handed .pre .0 .form) _),
+          (c .before .observe .ensures ∙ observed-in-use (handed .args .batch .observation .observed) (handed .args .batch .observation .form) (handed .args .batch .simulation .kernel .n) (handed .pre .form) _),
       c .rates-at2 .ensures,
     )
 
@@ -344,28 +374,75 @@ loop-again-2 c =
 add-non-positive-2 : tie.Need-add-non-positive-2 Inv-loop μ-loop Inv-paths μ-paths
 add-non-positive-2 c =
     let path : Path = c .before .before .before .before in
-    omega (arith, path .before .paths .inv .few, path .paths-test .taken, entry path .pre .0 .most)
+    omega (arith, path .before .paths .inv .few, path .paths-test .taken, entry path .pre .most)
+
+-- its row, of which the last entry goes to the tally
+abbrev Ended : Type 0
+Ended = tie.Joined5 Inv-loop μ-loop Inv-paths μ-paths
+
+abbrev path-ended : Ended → Path
+path-ended c = c .before .before .before .before
+
+-- the numbers of a row are small
+row-small : (c : Path) → (c .before .paths .path * entry c .args .batch .simulation .schedule .count + entry c .args .batch .simulation .schedule .count ≤ entry c .args .batch .paths * entry c .args .batch .simulation .schedule .count)
+    × (entry c .args .batch .paths * entry c .args .batch .simulation .schedule .count ≤ 4194304)
+row-small c =
+    let count = entry c .args .batch .simulation .schedule .count in
+    (row-last _ _ count count (c .paths-test .taken) (omega arith), mul-le-mul (entry c .pre .most) (entry c .pre .laid .few))
+
+mul-begin : tie.Need-mul-begin Inv-loop μ-loop Inv-paths μ-paths
+mul-begin c = omega (arith, row-small (path-ended c))
+
+add-end : tie.Need-add-end Inv-loop μ-loop Inv-paths μ-paths
+add-end c = omega (arith, row-small (path-ended c))
+
+mul-with-rows : tie.Need-mul-with-rows Inv-loop μ-loop Inv-paths μ-paths
+mul-with-rows c = omega (arith, row-small (path-ended c))
+
+sub-with-rows : tie.Need-sub-with-rows Inv-loop μ-loop Inv-paths μ-paths
+sub-with-rows c = omega arith
+
+part-with-rows-start : tie.Need-part-with-rows-start Inv-loop μ-loop Inv-paths μ-paths
+part-with-rows-start c = omega arith
+
+part-with-rows-end : tie.Need-part-with-rows-end Inv-loop μ-loop Inv-paths μ-paths
+part-with-rows-end c = omega (arith, row-small (path-ended (c .before)), c .before .before .before .loop .inv .0 .long)
+
+with-rows-requires-2 : tie.Need-with-rows-requires-2 Inv-loop μ-loop Inv-paths μ-paths
+with-rows-requires-2 c κs = entry (path-ended (c .before .before)) .pre .laid .some
 
 add-path-2 : tie.Need-add-path-2 Inv-loop μ-loop Inv-paths μ-paths
-add-path-2 c = let path : Path = c .before .before .before .before in omega (arith, path .paths-test .taken, entry path .pre .0 .most)
+add-path-2 c =
+    let path : Path = path-ended (c .before .before .before) in
+    omega (arith, path .paths-test .taken, entry path .pre .most)
 
 paths-less-2 : tie.Need-paths-less-2 Inv-loop μ-loop Inv-paths μ-paths
 paths-less-2 c = omega arith
 
 paths-again-2 : tie.Need-paths-again-2 Inv-loop μ-loop Inv-paths μ-paths
 paths-again-2 c =
-    let path : Path = c .before .before .before .before in
+    let ended : Ended = c .before .before .before in
+    let path : Path = path-ended ended in
     let low = path .before .paths .non-positive in
-    path-next (laid-at (entry path)) (path .before .paths .inv) (path .paths-test .taken) (c .before .before .loop .inv .0) (c .before .loop-test .left)
-    (⊎-elim (λ w. count-up low _ _ (w .0 .taken) (w .1)) (λ w. count-left low _ _ (w .0 .left) (w .1)) (c .if5 .came))
+    let before = path .before .paths .inv in
+    let inner = ended .before .before .loop .inv .0 in
+    path-next (laid-at (entry path)) before (path .paths-test .taken) inner (ended .before .loop-test .left)
+    (⊎-elim (λ w. count-up low _ _ (w .0 .taken) (w .1)) (λ w. count-left low _ _ (w .0 .left) (w .1)) (ended .if5 .came))
+    (path-tallied (laid-at (entry path)) before (path .paths-test .taken) inner (ended .before .loop-test .left) (c .with-rows2 .ensures))
 
 -- ---- the run ends
 
+ran : {b : Batch} {payoff : Payoff} {lent after : List Float} {r : Run} → r ≡ runAnswer b payoff → after ≡ tableAfter b lent → BatchRun b payoff lent after r
+ran a t = record { answer = a; table = t }
+
+abbrev left-of : tie.Left-paths Inv-loop μ-loop Inv-paths μ-paths → Entry
+left-of c = given-at (c .before .before .before .before)
+
 -- the table is as long as it was lent
-long-left : (c : tie.Left-paths Inv-loop μ-loop Inv-paths μ-paths) → length (c .paths-test .seen) ≡ length (c .before .before .before .before .before .args .seen .now)
+long-left : (c : tie.Left-paths Inv-loop μ-loop Inv-paths μ-paths) → length (c .paths-test .observations) ≡ length (left-of c .args .observations .now)
 long-left c =
     ⊎-elim (λ w. ap length (w .1) ∙ c .before .paths .inv .long) (λ w. ap length (w .10) ∙ w .2 .inv .0 .long) (c .paths-test .came)
-    ∙ sym (c .before .before .before .before .before .pre .0 .rows)
+    ∙ sym (left-of c .pre .rows)
 
 same-length : tie.Need-same-length Inv-loop μ-loop Inv-paths μ-paths
 same-length c = long-left (c .before)
@@ -373,7 +450,7 @@ same-length c = long-left (c .before)
 -- at a step that is not finite
 returns : tie.Need-returns Inv-loop μ-loop Inv-paths μ-paths
 returns c =
-    let handed : Entry = c .before .before .before .before .before .before in
+    let handed : Entry = left-of (c .before) in
     let laid = laid-at handed in
     let before = c .before .before .paths .inv in
     ⊎-elim (λ w. absurd (omega (arith, w .0 .left, c .if6 .taken)))
@@ -381,10 +458,10 @@ returns c =
     let taken : Stepped =
     record { before = record { before = record { before = record { before = record { before = record { before = c .before .before; paths-test = w .0 }; if1 = w .1 }; loop = w .2 }; loop-test = w .3 }; draw-at = w .4 }; step = w .5 } in
     let state = next-state laid (w .2 .inv .0) (w .3 .taken) (stepped taken) in
-    let fails = finite-in-use (handed .args .k .n) (w .5 .result) ∙ sym (w .6 .ensures) ∙ w .8 .given .1 in
-    with-claim _ laid (handed .pre .1) _ _ _ (handed .pre .0 .rows)
+    let fails = finite-in-use (handed .args .batch .simulation .kernel .n) (w .5 .result) ∙ sym (w .6 .ensures) ∙ w .8 .given .1 in
+    ran
     (w .11 ∙ sym (run-ends laid before (w .0 .taken) (w .2 .inv .0) (w .3 .taken) state fails))
-    (whole _ _ _ (laid .some) (handed .pre .0 .rows) (long-left (c .before))
+    (whole _ _ _ (laid .some) (handed .pre .rows) (long-left (c .before))
     (λ q j l m. rw (w .10) (entries-end laid before (w .0 .taken) (w .2 .inv .0) (w .3 .taken) state fails q j l m))))
     (c .before .paths-test .came)
 
@@ -394,13 +471,13 @@ same-length-2 c = long-left (c .before)
 -- after the last path
 returns-2 : tie.Need-returns-2 Inv-loop μ-loop Inv-paths μ-paths
 returns-2 c =
-    let handed : Entry = c .before .before .before .before .before .before in
+    let handed : Entry = left-of (c .before) in
     let laid = laid-at handed in
     let before = c .before .before .paths .inv in
     ⊎-elim
     (λ w.
-    with-claim _ laid (handed .pre .1) _ _ _ (handed .pre .0 .rows) (rw (w .3) (sym (run-done laid before (w .0 .left))))
-    (whole _ _ _ (laid .some) (handed .pre .0 .rows) (long-left (c .before))
+    ran (rw (w .3) (sym (run-done laid before (w .0 .left))))
+    (whole _ _ _ (laid .some) (handed .pre .rows) (long-left (c .before))
     (λ q j l m. rw (w .1) (entries-done laid before (w .0 .left) q j l m))))
     (λ w. absurd (omega (arith, w .0 .taken, c .if6 .left))) (c .before .paths-test .came)
 
@@ -413,6 +490,7 @@ run-paths-spec =
     Inv-paths
     μ-paths
     rates-at-requires
+    no-paths-requires
     paths-holds
     add-if2
     slice-aggregate-walk-four
@@ -423,6 +501,10 @@ run-paths-spec =
     slice-aggregate-write-rows
     mul-write-rows
     write-rows-requires
+    mul-rows-2
+    array-share-prefix-rows-2
+    slice-aggregate-with-rows
+    with-rows-requires
     mul-steps
     add-steps
     add-non-positive
@@ -443,10 +525,10 @@ run-paths-spec =
     mul-if4
     element-copy-out-if4
     observe-requires
-    mul-seen
-    add-seen
-    mul-seen-2
-    slice-write-seen
+    mul-observations
+    add-observations
+    mul-observations-2
+    slice-write-observations
     add-segment
     rates-at-requires-2
     loop-less
@@ -454,6 +536,13 @@ run-paths-spec =
     loop-less-2
     loop-again-2
     add-non-positive-2
+    mul-begin
+    add-end
+    mul-with-rows
+    sub-with-rows
+    part-with-rows-start
+    part-with-rows-end
+    with-rows-requires-2
     add-path-2
     paths-less-2
     paths-again-2

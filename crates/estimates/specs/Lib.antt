@@ -1,0 +1,2 @@
+pub mod Payoff
+pub mod Moments
