@@ -24,12 +24,14 @@ use Rattle.model.specs.declared.Params.{Params}
 use Rattle.doors.specs.declared.ParamsDoor.{ParamsDoor}
 use Rattle.model.specs.declared.RawParams.{RawParams}
 use Rattle.model.specs.declared.State.{State}
+use Rattle.model.specs.declared.Schedule.{Schedule}
+use Rattle.model.specs.declared.Simulation.{Simulation}
 use Rattle.model.specs.Parameters.{zeroDecimal, rawParams, rawFactors, startOf}
 use Rattle.doors.specs.Questions.{rangeQuestions, scaleQuestions, paramsQuestions}
 use Rattle.model.specs.Step.{read}
-use Rattle.model.specs.Inner.InUse.{kernelInUse, stateInUse}
+use Rattle.model.specs.Inner.InUse.{kernelInUse, stateInUse, simulationInUse}
 use Rattle.model.specs.Inner.Admitted.{Converted, ParamsReady, Admitted}
-use Rattle.doors.specs.Doors.{KernelReady, ParamsPrepared}
+use Rattle.doors.specs.Inner.Doors.{KernelReady, ParamsPrepared}
 
 -- ---- one Decimal
 at-most : (m : ℕ) (e : ℤ) → m * up e ≤ 2 ^ 96 * down e → le (fin false m e) (fin false 1 (pos 96)) ≡ true
@@ -108,13 +110,27 @@ starts-read k p raw s r e =
     subst (λ (x : RawParams). s ≡ read k x (s .spot) (s .factors)) (sym r)
     (subst (λ (x : State). x ≡ read k (rawParams p) (x .spot) (x .factors)) (sym e) refl)
 
-module _ (weights discounts : List Float) (k : Kernel) (p : Params) (r : ParamsDoor) (tables : KernelReady weights discounts k) (initial : ParamsPrepared k p r) (passed : r .outcome ≡ Passed) where
-  -- of the tables and the start as the doors prepare them
-  pub admitted : Admitted (kernelInUse k) (r .raw) (stateInUse (k .n) (r .start))
-  admitted =
-      record {
-        few = tables .few;
-        weight = λ i h. rw (getD-take (k .n) (k .weights) i nan h) (tables .weight i h);
-        params = initial .ready passed;
-        start-read = starts-read (kernelInUse k) p (r .raw) (stateInUse (k .n) (r .start)) (initial .raw) (initial .start);
-      }
+module _
+    (weights discounts : List Float)
+    (k : Kernel)
+    (p : Params)
+    (r : ParamsDoor)
+    (sc : Schedule)
+    (tables : KernelReady weights discounts k)
+    (initial : ParamsPrepared k p r)
+    (passed : r .outcome ≡ Passed)
+  where
+    -- of the tables and the start as the doors prepare them, with whatever schedule
+    abbrev over : Simulation
+    over = record { kernel = k; raw = r .raw; start = r .start; schedule = sc }
+
+    pub admitted : Admitted (simulationInUse over)
+    admitted =
+        record {
+          few = tables .few;
+          weight = λ i h. rw (getD-take (k .n) (k .weights) i nan h) (tables .weight i h);
+          params = initial .ready passed;
+          start-read =
+              starts-read (kernelInUse k) p (r .raw) (stateInUse (k .n) (r .start)) (initial .raw)
+              (initial .start);
+        }

@@ -13,12 +13,12 @@ use Rattle.refusal.specs.declared.Refusal.{Refusal}
 use Rattle.refusal.specs.declared.Refusal.the-variants.{Plain, InTable}
 use Rattle.refusal.specs.declared.Outcome.the-variants.{Passed, Refused}
 use Rattle.refusal.specs.Questions.{firstNo, each}
-use Rattle.refusal.proofs.Laws.{each-none, each-more, each-stops, each-passed, passed-head, passed-tail, never-both}
+use Rattle.refusal.proofs.Laws.{each-none, each-more, each-stops, each-passed, passed-head, never-both}
 use Rattle.model.specs.declared.Kernel.{Kernel}
 use Rattle.doors.specs.declared.KernelDoor.{KernelDoor}
 use Rattle.model.specs.Kernel.{inRange, kernelOf}
 use Rattle.doors.specs.Questions.{entryQuestions, kernelQuestions}
-use Rattle.doors.specs.Doors.{KernelPrepared}
+use Rattle.doors.specs.Inner.Doors.{KernelPrepared}
 
 -- a refusal prepares nothing
 pub kernel-refused : (weights discounts : List Float) (r : KernelDoor) (x : Refusal) → (r .outcome ≡ Refused x) × (r .kernel .n ≡ 0) → firstNo (kernelQuestions weights discounts) ≡ Refused x → KernelPrepared weights discounts r
@@ -111,9 +111,6 @@ module _ (weights discounts : List Float) where
     weight-fits : (j : ℕ) → j < length weights → inRange (getD kept-weights j nan) ≡ true
     weight-fits j h = rw (all .weight j (omega arith)) (passed-head _ _ (entry-passed j h))
 
-    discount-fits : (j : ℕ) → j < length weights → inRange (getD kept-discounts j nan) ≡ true
-    discount-fits j h = rw (all .discount j (omega arith)) (passed-head _ _ (passed-tail _ _ (entry-passed j h)))
-
     pub kernel-prepared : KernelPrepared weights discounts (record { outcome = Passed; kernel = record { n = length weights; weights = kept-weights; discounts = kept-discounts } })
     kernel-prepared =
         record {
@@ -125,6 +122,5 @@ module _ (weights discounts : List Float) where
                 some = all .counted .some;
                 few = all .counted .few;
                 weight = weight-fits;
-                discount = discount-fits;
               };
         }

@@ -1,5 +1,4 @@
-pub mod Laying
-pub mod Entries
+mod Entries
 mod Elements
-pub mod Admitting
-pub mod Preparing
+mod Admitting
+mod Preparing

@@ -1,3 +1,2 @@
-pub mod Model
 pub mod Questions
-pub mod Doors
+pub mod Inner

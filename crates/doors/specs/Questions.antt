@@ -1,36 +1,32 @@
--- "Questions at the door" of a model: of its kernel tables, its parameters and its schedule, in the order of document 01. Definitions only.
+-- What is asked of a model, in order: of its kernel tables, its parameters and its schedule.
+-- Definitions only.
 use mathlib.Core.Bool.{not, _&&_}
 use mathlib.Core.List.{List, [], _∷_, _++_}
 use Prim.Native.Nat.{ℕ, pred}
-use lib.Dec.{eqb, leb, ltb}
+use lib.Dec.{eqb, leb}
 use lib.ListN.{length, getD}
 use lib.Ieee.{Float, nan}
 use Rattle.decimal.specs.declared.Decimal.{Decimal}
-use Rattle.decimal.specs.Decimal.{isNegative, isPositive, scaleFits}
-use Rattle.refusal.specs.declared.Refusal.the-variants.{InTable, AtSegment}
+use Rattle.decimal.specs.Decimal.{isNegative, isPositive}
+use Rattle.refusal.specs.declared.Refusal.the-variants.{InTable}
 use Rattle.refusal.specs.Questions.{Question, ask, asked, each}
 use Rattle.model.specs.declared.Params.{Params}
-use Rattle.model.specs.declared.Segment.{Segment}
-use Rattle.model.specs.declared.Segments.{Segments}
 use Rattle.model.specs.Kernel.{inRange}
 use Rattle.model.specs.Parameters.{zeroDecimal}
-use Rattle.model.specs.Schedule.{segmentAt, stepsThrough}
-use Rattle.model.specs.Simulation.{Model}
-
--- "1 Has each nonzero Decimal scale ≤ 28?"
-abbrev pub scaleQuestion : Decimal → Question
-scaleQuestion d = asked 1 (scaleFits d)
+use Rattle.model.specs.Questions.{scaleQuestion}
+use Rattle.model.specs.Simulation.{Given}
+use Rattle.schedule.specs.Questions.{scheduleQuestions}
 
 -- ---- the kernel tables
 
--- "4 Is weight i, then discount i, in range for each i? (table: 1 weights, 2 discounts; i)"
+-- Rule 14.3: 4, weight i in range, then discount i; the tables are 1, weights, and 2, discounts
 abbrev pub entryQuestions : List Float → List Float → ℕ → List Question
 entryQuestions weights discounts i =
     ask (InTable 1 i) (inRange (getD weights (pred i) nan))
     ∷ ask (InTable 2 i) (inRange (getD discounts (pred i) nan))
     ∷ []
 
--- "2 Are there 1 to 10 weights? 3 As many discounts?", then 4
+-- Rule 14.3: 2, from 1 to 10 weights; 3, as many discounts; then 4 of each entry
 unfoldable pub kernelQuestions : List Float → List Float → List Question
 kernelQuestions weights discounts =
     (asked 2 (leb 1 (length weights) && leb (length weights) 10)
@@ -47,7 +43,7 @@ factorAt factors i = getD factors (pred i) zeroDecimal
 abbrev pub factorQuestions : List Decimal → ℕ → List Question
 factorQuestions factors i = scaleQuestion (factorAt factors i) ∷ []
 
--- "5 Is a ≥ 0? 6 c > 0? 7 lambda > 0? 8 eta > 0? 9 spot > 0? 10 Are there n factors?"
+-- Rule 14.4: 5, a not negative; 6 to 9, c, lambda, eta and spot positive; 10, n initial factors
 unfoldable pub rangeQuestions : ℕ → Params → List Question
 rangeQuestions n p =
     asked 5 (not (isNegative (p .a)))
@@ -58,7 +54,7 @@ rangeQuestions n p =
     ∷ asked 10 (eqb (p .«factor_count») n)
     ∷ []
 
--- "1 .. Asked of a, b, c, lambda, eta, factors, spot here"
+-- Rule 14.5: 1 of a, b, c, lambda and eta, then of each factor, at last of spot
 unfoldable pub scaleQuestions : ℕ → Params → List Question
 scaleQuestions n p =
     (scaleQuestion (p .a)
@@ -70,35 +66,16 @@ scaleQuestions n p =
     ++ each (factorQuestions (p .factors)) n
     ++ (scaleQuestion (p .spot) ∷ [])
 
--- 5 to 10, then 1
+-- Rule 14.5: 5 to 10, then 1
 unfoldable pub paramsQuestions : ℕ → Params → List Question
 paramsQuestions n p = rangeQuestions n p ++ scaleQuestions n p
 
--- ---- the schedule
-
--- "13 dt > 0 and steps > 0? 14 Running total ≤ 4,096? (segment, for both) Then 1 for its dt": of segment i, with the running total that includes it
-abbrev pub questionsOf : Segment → ℕ → ℕ → List Question
-questionsOf s i total =
-    ask (AtSegment 13 i) (isPositive (s .dt) && ltb 0 (s .steps))
-    ∷ ask (AtSegment 14 i) (leb total 4096)
-    ∷ scaleQuestion (s .dt)
-    ∷ []
-
--- "Segment by segment"
-abbrev pub segmentQuestions : Segments → ℕ → List Question
-segmentQuestions g i = questionsOf (segmentAt g i) i (stepsThrough g i)
-
--- "11 Is there a segment? 12 At most 64?", then segment by segment
-unfoldable pub scheduleQuestions : Segments → List Question
-scheduleQuestions g =
-    (asked 11 (leb 1 (g .count)) ∷ asked 12 (leb (g .count) 64) ∷ []) ++ each (segmentQuestions g) (g .count)
-
 -- ---- the model
 
--- 2 to 4, then 5 to 10 and 1, then 11 to 14 and 1
-unfoldable pub modelQuestions : Model → List Question
+-- Rule 14.7: those of the kernel, of the parameters and of the schedule
+unfoldable pub modelQuestions : Given → List Question
 unfolding kernelQuestions paramsQuestions scheduleQuestions
-modelQuestions m =
-    kernelQuestions (m .weights) (m .discounts)
-    ++ paramsQuestions (length (m .weights)) (m .params)
-    ++ scheduleQuestions (m .segments)
+modelQuestions g =
+    kernelQuestions (g .weights) (g .discounts)
+    ++ paramsQuestions (length (g .weights)) (g .params)
+    ++ scheduleQuestions (g .segments)

@@ -1,7 +1,7 @@
-// The door of the kernel tables: questions 2, 3 and 4.
+// The door of the kernel tables: questions 2, 3 and 4 (rule 14.3).
 ghost use mathlib.Core.Path.{_≡_};
 ghost use Rattle.model.specs.Kernel.{inRange};
-ghost use Rattle.doors.specs.Doors.{KernelPrepared};
+ghost use Rattle.doors.specs.Inner.Doors.{KernelPrepared};
 use crate::KernelDoor;
 use model::Kernel;
 use refusal::Outcome;

@@ -1,11 +1,11 @@
-// The door of the parameters: questions 5 to 10, then 1.
+// The door of the parameters: questions 5 to 10 (rule 14.4), then 1 (14.5).
 ghost use mathlib.Core.Path.{_≡_};
 ghost use Prim.Native.Nat.{_≤_};
 ghost use lib.ListN.{take};
 ghost use Rattle.refusal.specs.Questions.{firstNo, each};
 ghost use Rattle.doors.specs.Questions.{factorQuestions, rangeQuestions, scaleQuestions};
 ghost use Rattle.model.specs.Parameters.{rawParams, rawFactors};
-ghost use Rattle.doors.specs.Doors.{ParamsPrepared};
+ghost use Rattle.doors.specs.Inner.Doors.{ParamsPrepared};
 use crate::ParamsDoor;
 use decimal::Decimal;
 use model::Kernel;

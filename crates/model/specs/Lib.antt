@@ -4,5 +4,6 @@ pub mod First
 pub mod Schedule
 pub mod Step
 pub mod Simulation
+pub mod Questions
 pub mod Walk
 pub mod Inner

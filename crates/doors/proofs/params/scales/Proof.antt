@@ -6,8 +6,9 @@ use Rattle.refusal.specs.declared.Outcome.{Outcome}
 use Rattle.refusal.specs.declared.Outcome.the-variants.{Passed}
 use Rattle.refusal.specs.Questions.{Question, firstNo, further, orLater, each}
 use Rattle.refusal.proofs.Laws.{asking, in-turn, append, append-one}
-use Rattle.doors.specs.Questions.{scaleQuestion, factorQuestions, scaleQuestions}
 use Rattle.model.specs.declared.Params.{Params}
+use Rattle.model.specs.Questions.{scaleQuestion}
+use Rattle.doors.specs.Questions.{factorQuestions, scaleQuestions}
 use Rattle.doors.proofs.params.scales.Statement.{statement}
 use Rattle.doors.proofs.params.scales.Tie as tie
 

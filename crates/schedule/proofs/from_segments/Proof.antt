@@ -1,11 +1,11 @@
--- `doors::schedule::from_segments` meets its contract. After i segments, each is asked, converted and laid after the one before. Assumes nothing.
+-- `schedule::from_segments` meets its contract. After i segments, each is asked, converted and laid after the one before. Assumes nothing.
 use mathlib.Core.Path.{refl, sym, _∙_}
 use Prim.Native.Nat.{_≤_, _-_}
 use native.Mathlib.Omega.{arith}
 use borrow.Author.Needs.{needs}
-use Rattle.doors.proofs.Laying.{Laying, schedule-refused, none-refused, many-refused, laying-none, segment-refused, laying-more, schedule-prepared}
-use Rattle.doors.proofs.schedule.from_segments.Statement.{statement}
-use Rattle.doors.proofs.schedule.from_segments.Tie as tie
+use Rattle.schedule.proofs.Laying.{Laying, schedule-refused, none-refused, many-refused, laying-none, segment-refused, laying-more, schedule-prepared}
+use Rattle.schedule.proofs.from_segments.Statement.{statement}
+use Rattle.schedule.proofs.from_segments.Tie as tie
 
 abbrev Inv-loop : tie.InvT-loop
 Inv-loop count segments dt₀ sqrt-dt₀ last₀ total₀ i₀ dt sqrt-dt last total i =

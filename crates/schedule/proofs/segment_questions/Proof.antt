@@ -1,4 +1,4 @@
--- `doors::schedule::segment_questions` meets its contract: three questions in turn. Assumes nothing.
+-- `schedule::segment_questions` meets its contract: three questions in turn. Assumes nothing.
 use mathlib.Core.Path.{_≡_, sym, _∙_}
 use mathlib.Core.Bool.{_&&_}
 use mathlib.Core.Logic.{⊎-elim}
@@ -6,9 +6,9 @@ use borrow.Author.Needs.{needs}
 use lib.Dec.{ltb}
 use Rattle.decimal.specs.Decimal.{isPositive}
 use Rattle.refusal.proofs.Laws.{in-turn}
-use Rattle.doors.specs.Questions.{questionsOf}
-use Rattle.doors.proofs.schedule.segment_questions.Statement.{statement}
-use Rattle.doors.proofs.schedule.segment_questions.Tie as tie
+use Rattle.schedule.specs.Questions.{questionsOf}
+use Rattle.schedule.proofs.segment_questions.Statement.{statement}
+use Rattle.schedule.proofs.segment_questions.Tie as tie
 
 is-positive-requires : tie.Need-is-positive-requires
 is-positive-requires c κs = search needs

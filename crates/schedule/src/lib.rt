@@ -1,14 +1,20 @@
-// The door of the schedule: questions 11 and 12, then 13, 14 and 1 segment by segment.
+// The door of the schedule: questions 11 and 12, then 13, 14 and 1 segment by segment (rule 14.6),
+// and the schedule that is laid out of the segments given (6.2).
 ghost use mathlib.Core.Path.{_≡_};
 ghost use Rattle.refusal.specs.Questions.{firstNo};
-ghost use Rattle.doors.specs.Questions.{questionsOf};
-ghost use Rattle.doors.specs.Doors.{SchedulePrepared};
-use crate::ScheduleDoor;
+ghost use Rattle.schedule.specs.Questions.{questionsOf};
+ghost use Rattle.schedule.specs.Inner.Door.{SchedulePrepared};
 use model::Schedule;
 use model::Segment;
 use model::Segments;
 use refusal::Outcome;
 use refusal::Refusal;
+
+// What the questions came to and, where all passed, the schedule.
+pub struct ScheduleDoor {
+    pub outcome: Outcome,
+    pub schedule: Schedule,
+}
 
 // Questions 13, 14 and 1 of one segment, counted from 1, with the running total that includes it.
 fn segment_questions(s: Segment, segment: u64, total: usize) -> Outcome

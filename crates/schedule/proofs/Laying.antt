@@ -19,13 +19,13 @@ use Rattle.refusal.specs.declared.Outcome.the-variants.{Passed, Refused}
 use Rattle.refusal.specs.Questions.{firstNo, each}
 use Rattle.refusal.proofs.Laws.{each-none, each-more, each-stops, each-passed, passed-head, passed-tail, never-both}
 use Rattle.model.specs.declared.Schedule.{Schedule}
-use Rattle.doors.specs.declared.ScheduleDoor.{ScheduleDoor}
+use Rattle.schedule.specs.declared.ScheduleDoor.{ScheduleDoor}
 use Rattle.model.specs.declared.Segments.{Segments}
 use Rattle.model.specs.Schedule.{segmentAt, stepsThrough, scheduleOf, lastStep}
 use Rattle.model.specs.Inner.InUse.{scheduleInUse}
-use Rattle.doors.specs.Questions.{questionsOf, segmentQuestions, scheduleQuestions}
+use Rattle.schedule.specs.Questions.{questionsOf, segmentQuestions, scheduleQuestions}
 use Rattle.model.specs.Inner.Laid.{Laid}
-use Rattle.doors.specs.Doors.{SchedulePrepared}
+use Rattle.schedule.specs.Inner.Door.{SchedulePrepared}
 
 module _ (g : Segments) where
   -- a refusal prepares nothing
