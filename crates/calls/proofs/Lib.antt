@@ -1,4 +1,3 @@
-pub mod TraceCall
 pub mod Sizes
 pub mod Reported
 pub mod Observed

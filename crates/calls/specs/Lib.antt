@@ -1,4 +1,3 @@
-pub mod Trace
 pub mod VixCall
 pub mod Batches
 pub mod Vanilla

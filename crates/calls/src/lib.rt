@@ -10,15 +10,8 @@ pub mod batch_doors;
 pub mod evaluating;
 pub mod form;
 pub mod pricing;
-pub mod tracing;
 pub mod vanilla;
 pub mod vix_batch;
-
-// What a trace answers: the steps taken, all finite, or the first question that got a No.
-pub enum Trace {
-    Done { steps: u64 },
-    Refused(Refusal),
-}
 
 // What pricing a batch answers: its estimates, or the first question that got a No, with the steps
 // taken by then.

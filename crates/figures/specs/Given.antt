@@ -9,7 +9,7 @@ use Rattle.model.specs.declared.Kernel.{Kernel}
 use Rattle.model.specs.declared.Params.{Params}
 use Rattle.model.specs.declared.Segments.{Segments}
 use Rattle.model.specs.Kernel.{kernelOf}
-use Rattle.model.specs.Simulation.{Model, given}
+use Rattle.model.specs.Simulation.{Given, given}
 use Rattle.calls.specs.Vanilla.{VanillaInputs, vanillaInputs}
 
 -- the double of these bits
@@ -63,7 +63,7 @@ steps count = record { count = 1; segments = record { dt = decimal 25 2; steps =
 abbrev pub oneStep : Segments
 oneStep = steps 1
 
-abbrev pub modelOf : Params → Segments → Model
+abbrev pub modelOf : Params → Segments → Given
 modelOf p segments = given weights discounts p segments
 
 -- a call at 100 over two paths

@@ -14,13 +14,13 @@ use Rattle.refusal.specs.Questions.{firstNo, each}
 use Rattle.model.specs.Kernel.{inRange}
 use Rattle.doors.specs.Questions.{rangeQuestions, scaleQuestions}
 use Rattle.model.specs.Schedule.{stepsThrough}
-use Rattle.trace.specs.Walked.{tables, tableAfter}
+use Rattle.trace.specs.Trace.{tables, tableAfter}
+use Rattle.trace.specs.Call.{traceInputs, traceCall, traceTables}
 use Rattle.matrix.specs.Call.{exponentialCall, exponentialTable}
 use Rattle.refusal.specs.Refusal.{noPlace}
-use Rattle.terminal.specs.Answers.{conversion, traced, vanillaAnswer}
+use Rattle.terminal.specs.Answers.{conversion, vanillaAnswer}
 use Rattle.terminal.specs.Answers.{exponentialAnswer, evaluatedAnswer}
 use Rattle.calls.specs.declared.Factors.{Factors}
-use Rattle.calls.specs.Trace.{traceCall, traceTables}
 use Rattle.calls.specs.Vanilla.{vanillaCall}
 use Rattle.calls.specs.VixCall.{vixInputs, vixCall}
 use Rattle.figures.specs.Given.{bits, decimal, weights, discounts, params, calm, oneStep}
@@ -56,13 +56,12 @@ after table = getD table 1 nan
 -- a trace of one step: spot, factor, z and variance after it
 abbrev pub stepped : Float → Figure
 stepped draw =
-    let m = modelOf params oneStep in
-    let draws = draw ∷ [] in
+    let i = traceInputs (modelOf params oneStep) (draw ∷ []) in
     let room = tables (lent 2) (lent 2) (lent 2) (lent 2) in
-    let a = traced (traceCall m draws room) in
-    let t = traceTables m draws room in
+    let a = traceCall i room in
+    let t = traceTables i room in
     figure (a .number) (a .place)
-    (after (t .spots) ∷ after (t .factors) ∷ after (t .zs) ∷ after (t .variances) ∷ [])
+    (after (t .spots) ∷ after (t .factors) ∷ after (t .z) ∷ after (t .variances) ∷ [])
     (a .steps ∷ [])
 
 -- a call at 100 over two paths of one step

@@ -5,13 +5,13 @@ mod exponential;
 mod given;
 mod report;
 mod scalar;
-mod trace;
+mod traces;
 mod vanilla;
 mod vix;
 
 fn main() {
     let mut wrong = scalar::figures(0);
-    wrong = trace::figures(wrong);
+    wrong = traces::figures(wrong);
     wrong = vanilla::figures(wrong);
     wrong = exponential::figures(wrong);
     wrong = vix::figures(wrong);

@@ -13,7 +13,7 @@ mod modelled;
 mod outcome;
 mod scalar;
 mod tables;
-mod trace;
+mod traces;
 mod vanilla;
 mod vix;
 mod words;

@@ -3,7 +3,7 @@ use crate::inputs::after_params;
 use crate::inputs::params;
 use crate::tables::list;
 use crate::tables::zeros;
-use crate::trace;
+use crate::traces;
 use crate::vanilla;
 use crate::vix;
 use crate::words::after_list;
@@ -20,7 +20,7 @@ pub(crate) fn replay(file: &[u8], call: u64, at: usize, end: usize) -> bool {
     let discounts = &discounts[..count];
     let params = params(file, params_at);
     match call {
-        3 => trace::replay(file, rest_at, end, weights, discounts, params),
+        3 => traces::replay(file, rest_at, end, weights, discounts, params),
         4 => vanilla::replay(file, rest_at, end, false, weights, discounts, params),
         5 => vanilla::replay(file, rest_at, end, true, weights, discounts, params),
         6 => vix::evaluation(file, rest_at, end, weights, discounts, params),

@@ -2,21 +2,14 @@
 -- cases": an answer as it crosses the edge. Its number is 0 where the call is answered; a place has
 -- four numbers, 0 where it has none; a refusal's values are zeros.
 use mathlib.Core.List.{[], _∷_}
-use Prim.Native.Nat.{ℕ}
 use Rattle.decimal.specs.declared.Converted.{Converted}
 use Rattle.decimal.specs.declared.Converted.the-variants.{Value, ScaleTooLarge}
 use Rattle.numeric.specs.Double.{plusZero}
-use Rattle.refusal.specs.declared.Refusal.{Refusal}
-use Rattle.refusal.specs.declared.Refusal.the-variants.{Plain, InTable, AtSegment}
-use Rattle.refusal.specs.declared.Refusal.the-variants.{NonFinite, OnPath, Estimate}
 use Rattle.refusal.specs.Refusal.{numberOf, placeOf, noPlace}
 use Rattle.batch.specs.Claim.{BatchAnswer}
 use Rattle.matrix.specs.declared.Answer.{Answer}
 use Rattle.matrix.specs.declared.Answer.the-variants as exponentiation
 use Rattle.terminal.specs.declared.Conversion.{Conversion}
-use Rattle.calls.specs.declared.Trace.{Trace}
-use Rattle.calls.specs.declared.Trace.the-variants as trace
-use Rattle.terminal.specs.declared.TraceAnswer.{TraceAnswer}
 use Rattle.terminal.specs.declared.ExponentialAnswer.{ExponentialAnswer}
 use Rattle.calls.specs.declared.Evaluation.{Evaluation}
 use Rattle.calls.specs.declared.Evaluation.the-variants as evaluation
@@ -26,26 +19,10 @@ use Rattle.calls.specs.declared.Priced.the-variants as priced
 use Rattle.terminal.specs.declared.VanillaAnswer.{VanillaAnswer}
 use Rattle.terminal.specs.declared.VixBatchAnswer.{VixBatchAnswer}
 
--- the steps taken at a refusal: none but at 22, which has them for its fourth place
-abbrev pub stepsTaken : Refusal → ℕ
-stepsTaken (Plain number) = 0
-stepsTaken (InTable table index) = 0
-stepsTaken (AtSegment number segment) = 0
-stepsTaken (NonFinite path step quantity steps) = steps
-stepsTaken (OnPath number path) = 0
-stepsTaken (Estimate which) = 0
-
 -- converting a Decimal: its double; 1, the scale of a nonzero Decimal is above 28
 abbrev pub conversion : Converted → Conversion
 conversion (Value v) = record { number = 0; place = noPlace; value = v }
 conversion ScaleTooLarge = record { number = 1; place = noPlace; value = plusZero }
-
--- tracing: the steps taken; at a refusal its number and place, and the steps taken, the failing one
--- of 22 included
-abbrev pub traced : Trace → TraceAnswer
-traced (trace.Done steps) = record { number = 0; place = noPlace; steps = steps }
-traced (trace.Refused refusal) =
-    record { number = numberOf refusal; place = placeOf refusal; steps = stepsTaken refusal }
 
 -- pricing a vanilla batch: price and mean terminal spot, each with its standard error, paths,
 -- non-positive paths and the steps taken; at a refusal only these are kept

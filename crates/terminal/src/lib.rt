@@ -3,13 +3,13 @@
 use calls::Evaluation;
 use calls::Factors;
 use calls::Priced;
-use calls::Trace;
 use calls::VixPayoff;
 use decimal::Converted;
 use decimal::Decimal;
 use matrix::Answer;
 use model::Params;
 use model::Segments;
+use trace::Tracing;
 ghost use mathlib.Core.Path.{_≡_};
 ghost use mathlib.Core.Bool.{true, false};
 ghost use lib.ListN.{length};
@@ -18,16 +18,16 @@ ghost use Rattle.numeric.specs.Correct.{RootIsNearest};
 ghost use Rattle.numeric.specs.Root.{root};
 ghost use Rattle.decimal.specs.Decimal.{convert, ConvertsToNearest};
 ghost use Rattle.model.specs.Simulation.{given};
-ghost use Rattle.trace.specs.Walked.{tables};
+ghost use Rattle.trace.specs.Trace.{tables};
+ghost use Rattle.trace.specs.Call.{traceInputs, TraceAnswered};
 ghost use Rattle.matrix.specs.Call.{sizeQuestions, exponentialCall, exponentialTable};
 ghost use Rattle.refusal.specs.Questions.{firstNo, KeptUnlessPassed};
 ghost use Rattle.calls.specs.VixBatch.{vixBatchInputs, vixBatchCall, vixBatchTable, VixBatchClaim};
 ghost use Rattle.calls.specs.VixBatch.{throughSixteen};
 ghost use Rattle.calls.specs.VixCall.{vixInputs, vixCall, throughWorkspace};
-ghost use Rattle.terminal.specs.Answers.{conversion, traced, exponentialAnswer};
+ghost use Rattle.terminal.specs.Answers.{conversion, exponentialAnswer};
 ghost use Rattle.terminal.specs.Answers.{evaluatedAnswer, vanillaAnswer, readVanilla};
 ghost use Rattle.terminal.specs.Answers.{vixBatchAnswer, readVixBatch};
-ghost use Rattle.calls.specs.Trace.{traceCall, traceTables};
 ghost use Rattle.calls.specs.Vanilla.{vanillaInputs, vanillaCall, vanillaTable, VanillaClaim};
 
 #[repr(C)]
@@ -67,34 +67,6 @@ pub extern "C" fn qrh_sqrt(x: f64) -> f64
     numeric::sqrt(x)
 }
 
-#[repr(C)]
-pub struct TraceAnswer {
-    pub number: u32,
-    pub place: [u64; 4],
-    pub steps: u64,
-}
-
-fn trace_answer(call: Trace) -> TraceAnswer
-    ensures { λ r. ⌜ r ≡ traced call ⌝ }
-{
-    match call {
-        Trace::Done { steps } => TraceAnswer {
-            number: 0,
-            place: [0; 4],
-            steps: steps,
-        },
-        Trace::Refused(refusal) => {
-            let number = refusal::number(refusal);
-            let place = refusal::place(refusal);
-            TraceAnswer {
-                number: number,
-                place: place,
-                steps: place[3],
-            }
-        }
-    }
-}
-
 #[no_mangle]
 pub extern "C" fn qrh_trace(
     weights: &[f64],
@@ -104,16 +76,18 @@ pub extern "C" fn qrh_trace(
     draws: &[f64],
     spots: &mut [f64],
     variances: &mut [f64],
-    zs: &mut [f64],
+    z: &mut [f64],
     factors: &mut [f64],
-) -> TraceAnswer
-    ensures answer { λ r. ⌜ r ≡ traced (traceCall (given (now (weights .entry)) (now (discounts .entry)) params segments) (now (draws .entry))
-        (tables (now (spots .entry)) (now (variances .entry)) (now (zs .entry)) (now (factors .entry)))) ⌝ }
-    ensures tables { λ r. ⌜ tables (now (spots .exit)) (now (variances .exit)) (now (zs .exit)) (now (factors .exit))
-        ≡ traceTables (given (now (weights .entry)) (now (discounts .entry)) params segments) (now (draws .entry))
-        (tables (now (spots .entry)) (now (variances .entry)) (now (zs .entry)) (now (factors .entry))) ⌝ }
+) -> Tracing
+    ensures { λ r. ⌜ TraceAnswered
+        (traceInputs (given (now (weights .entry)) (now (discounts .entry)) params segments)
+        (now (draws .entry)))
+        (tables (now (spots .entry)) (now (variances .entry)) (now (z .entry))
+        (now (factors .entry)))
+        (tables (now (spots .exit)) (now (variances .exit)) (now (z .exit))
+        (now (factors .exit))) r ⌝ }
 {
-    trace_answer(calls::tracing::trace(
+    trace::trace(
         weights,
         discounts,
         params,
@@ -121,9 +95,9 @@ pub extern "C" fn qrh_trace(
         draws,
         spots,
         variances,
-        zs,
+        z,
         factors,
-    ))
+    )
 }
 
 // The values of a vanilla batch, in the order in which they are reported. At a refusal they are zeros,

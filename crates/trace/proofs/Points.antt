@@ -10,11 +10,12 @@ use lib.ListN.{length, getD, set, length-set}
 use lib.Seq.{getD-take, getD-set-same, getD-set-other}
 use lib.Ieee.{Float, nan}
 use Rattle.numeric.proofs.Tables.{is-tabulate}
 use Rattle.model.specs.declared.State.{State}
 use Rattle.model.specs.Inner.InUse.{stateInUse}
 use Rattle.model.specs.Walk.{Walk, Stop, stateAfter, stopWithin, unlessStopped}
-use Rattle.trace.specs.Walked.{Tables, tables, Sized, Written, PointWritten, tableAfter, tablesAfter}
 use Rattle.model.proofs.First.{split}
+use Rattle.trace.specs.Trace.{Tables, tables, tableAfter, tablesAfter}
+use Rattle.trace.specs.Inner.Points.{Sized, Written, PointWritten}
 
 -- ---- values written from a place on
 module _ (base : ℕ) (values l₀ : List Float) where
@@ -105,7 +106,7 @@ factors-fit n total l m e h =
 pub record AllThrough (w : Walk) (n : ℕ) (lent t : Tables) (m : ℕ) : Type 0 where
   pub spots : Through w (λ x. x) (λ s x. s .spot) (lent .spots) (t .spots) m
   pub variances : Through w (λ x. x) (λ s x. s .variance) (lent .variances) (t .variances) m
-  pub zs : Through w (λ x. x) (λ s x. s .z) (lent .zs) (t .zs) m
+  pub z : Through w (λ x. x) (λ s x. s .z) (lent .z) (t .z) m
   pub factors : Through w (λ x. x / n) (factorOf n) (lent .factors) (t .factors) m
 
 tables-same : {a a′ b b′ c c′ d d′ : List Float} → a ≡ a′ → b ≡ b′ → c ≡ c′ → d ≡ d′ → tables a b c d ≡ tables a′ b′ c′ d′
@@ -117,7 +118,7 @@ module _ (w : Walk) (n total : ℕ) (lent : Tables) (one : 1 ≤ n) (size : Size
       record {
         spots = through-none w _ _ _;
         variances = through-none w _ _ _;
-        zs = through-none w _ _ _;
+        z = through-none w _ _ _;
         factors = through-none w _ _ _;
       }
 
@@ -132,22 +133,22 @@ module _ (w : Walk) (n total : ℕ) (lent : Tables) (one : 1 ≤ n) (size : Size
             subst (λ (l : List Float). Through w (λ x. x) (λ s x. s .variance) (lent .variances) l (m + 1)) (sym (new .variances))
             (point-next w (lent .variances) (λ s. s .variance) (t .variances) m (s .variance) (h .variances)
             (point-fits (t .variances) m (h .variances .long ∙ size .variances) most) (ap (λ (s : State). s .variance) e));
-        zs =
-            subst (λ (l : List Float). Through w (λ x. x) (λ s x. s .z) (lent .zs) l (m + 1)) (sym (new .zs))
-            (point-next w (lent .zs) (λ s. s .z) (t .zs) m (s .z) (h .zs)
-            (point-fits (t .zs) m (h .zs .long ∙ size .zs) most) (ap (λ (s : State). s .z) e));
+        z =
+            subst (λ (l : List Float). Through w (λ x. x) (λ s x. s .z) (lent .z) l (m + 1)) (sym (new .z))
+            (point-next w (lent .z) (λ s. s .z) (t .z) m (s .z) (h .z)
+            (point-fits (t .z) m (h .z .long ∙ size .z) most) (ap (λ (s : State). s .z) e));
         factors =
             factors-next w (lent .factors) n (s .factors) (t .factors) (t′ .factors) m one (h .factors) same (new .factors)
             (λ i b. sym (getD-take n (s .factors) i nan b) ∙ ap (λ (s : State). getD (s .factors) i nan) e);
       }
 
   -- the walk has stopped at point m, or point m is past the last one
-  pub all-end : (t : Tables) (m : ℕ) (stop : Stop) → w .kernel .n ≡ n → AllThrough w n lent t m → ((j : ℕ) → j < m → stopWithin w j ≡ none) → ((j : ℕ) → m ≤ j → j ≤ total → stopWithin w j ≡ some stop) → t ≡ tablesAfter w lent
+  pub all-end : (t : Tables) (m : ℕ) (stop : Stop) → w .simulation .kernel .n ≡ n → AllThrough w n lent t m → ((j : ℕ) → j < m → stopWithin w j ≡ none) → ((j : ℕ) → m ≤ j → j ≤ total → stopWithin w j ≡ some stop) → t ≡ tablesAfter w lent
   all-end t m stop e h going stops =
       tables-same
       (through-end w _ _ (lent .spots) (t .spots) m stop (h .spots) going (λ x b z. stops x z (omega (arith, size .spots))))
       (through-end w _ _ (lent .variances) (t .variances) m stop (h .variances) going (λ x b z. stops x z (omega (arith, size .variances))))
-      (through-end w _ _ (lent .zs) (t .zs) m stop (h .zs) going (λ x b z. stops x z (omega (arith, size .zs))))
+      (through-end w _ _ (lent .z) (t .z) m stop (h .z) going (λ x b z. stops x z (omega (arith, size .z))))
       (through-end w _ _ (lent .factors) (t .factors) m stop (h .factors) going
       (λ x b z. stops (x / n) z (let q : x / n < total + 1 = div-lt-iff-lt-mul one .1 (omega (arith, size .factors)) in omega arith))
       ∙ ap (λ (n : ℕ). tableAfter w (λ x. x / n) (factorOf n) (lent .factors)) (sym e))

@@ -1,17 +1,17 @@
-// A trace: path 1 alone, with a table of what each of its points holds.
+// The walk of a trace, which writes each point into the lent tables.
 ghost use mathlib.Core.Path.{_≡_};
 ghost use Prim.Native.Nat.{_+_, _*_, _≤_, _<_};
 ghost use lib.ListN.{length};
+ghost use Rattle.model.specs.Inner.InUse.{simulationInUse};
 ghost use Rattle.model.specs.Inner.Laid.{Laid};
-ghost use Rattle.trace.specs.Walked.{Written, PointWritten, Sized, tables, walkOf, traceAnswer, tablesAfter};
-use crate::Finiteness;
-use crate::Kernel;
-use crate::RawParams;
-use crate::Schedule;
-use crate::State;
+ghost use Rattle.trace.specs.Trace.{tables, traceWalk, traceAnswer, tablesAfter};
+ghost use Rattle.trace.specs.Inner.Points.{Sized, Written, PointWritten};
 use crate::Traced;
-use crate::draws;
-use crate::scheme;
+use model::Finiteness;
+use model::Simulation;
+use model::State;
+use model::draws;
+use model::scheme;
 
 // The first n of `values`, at the places of a point.
 fn write_factors(n: usize, values: [f64; 10], point: usize, factors: &mut [f64])
@@ -33,56 +33,64 @@ fn write_point(
     point: usize,
     spots: &mut [f64],
     variances: &mut [f64],
-    zs: &mut [f64],
+    z: &mut [f64],
     factors: &mut [f64],
 )
     requires { ⌜ n ≤ 10 ⌝ }
-    requires { ⌜ (point < length (now spots)) × (point < length (now variances)) × (point < length (now zs)) ⌝ }
+    requires { ⌜ (point < length (now spots)) × (point < length (now variances))
+        × (point < length (now z)) ⌝ }
     requires { ⌜ point * n + n ≤ length (now factors) ⌝ }
-    ensures { λ r. ⌜ PointWritten n s point (tables (now (spots .entry)) (now (variances .entry)) (now (zs .entry)) (now (factors .entry)))
-        (tables (now (spots .exit)) (now (variances .exit)) (now (zs .exit)) (now (factors .exit))) ⌝ }
+    ensures { λ r. ⌜ PointWritten n s point
+        (tables (now (spots .entry)) (now (variances .entry)) (now (z .entry))
+        (now (factors .entry)))
+        (tables (now (spots .exit)) (now (variances .exit)) (now (z .exit))
+        (now (factors .exit))) ⌝ }
 {
     spots[point] = s.spot;
     variances[point] = s.variance;
-    zs[point] = s.z;
+    z[point] = s.z;
     let values = s.factors;
     write_factors(n, values, point, factors);
 }
 
 // Each point is written, up to the first step that is not finite.
 pub fn walk(
-    k: Kernel,
-    p: RawParams,
-    start: State,
-    sched: Schedule,
+    simulation: Simulation,
     draws: &[f64],
     spots: &mut [f64],
     variances: &mut [f64],
-    zs: &mut [f64],
+    z: &mut [f64],
     factors: &mut [f64],
 ) -> Traced
-    requires { ⌜ (1 ≤ k .n) × (k .n ≤ 10) ⌝ }
-    requires { ⌜ Laid sched ⌝ }
-    requires { ⌜ length (now draws) ≡ sched .total ⌝ }
-    requires { ⌜ Sized (sched .total) (k .n) (tables (now spots) (now variances) (now zs) (now factors)) ⌝ }
-    ensures answer { λ r. ⌜ r ≡ traceAnswer (walkOf k p start sched (now (draws .entry))) (sched .total) ⌝ }
-    ensures tables { λ r. ⌜ tables (now (spots .exit)) (now (variances .exit)) (now (zs .exit)) (now (factors .exit))
-        ≡ tablesAfter (walkOf k p start sched (now (draws .entry)))
-        (tables (now (spots .entry)) (now (variances .entry)) (now (zs .entry)) (now (factors .entry))) ⌝ }
+    requires { ⌜ (1 ≤ simulation .kernel .n) × (simulation .kernel .n ≤ 10) ⌝ }
+    requires { ⌜ Laid (simulation .schedule) ⌝ }
+    requires { ⌜ length (now draws) ≡ simulation .schedule .total ⌝ }
+    requires { ⌜ Sized (simulation .schedule .total) (simulation .kernel .n)
+        (tables (now spots) (now variances) (now z) (now factors)) ⌝ }
+    ensures answer { λ r. ⌜ r
+        ≡ traceAnswer (traceWalk (simulationInUse simulation) (now (draws .entry))) ⌝ }
+    ensures tables { λ r. ⌜
+        tables (now (spots .exit)) (now (variances .exit)) (now (z .exit)) (now (factors .exit))
+        ≡ tablesAfter (traceWalk (simulationInUse simulation) (now (draws .entry)))
+        (tables (now (spots .entry)) (now (variances .entry)) (now (z .entry))
+        (now (factors .entry))) ⌝ }
 {
-    let n = k.n;
-    let total = sched.total;
-    let mut s = start;
+    let kernel = simulation.kernel;
+    let raw = simulation.raw;
+    let schedule = simulation.schedule;
+    let n = kernel.n;
+    let total = schedule.total;
+    let mut s = simulation.start;
     let mut segment: usize = 0;
-    let mut rates = scheme::rates_at(k, sched, segment);
+    let mut rates = scheme::rates_at(kernel, schedule, segment);
     let mut at: usize = 0;
     loop {
-        write_point(n, s, at, spots, variances, zs, factors);
+        write_point(n, s, at, spots, variances, z, factors);
         if at == total {
             return Traced::Done { steps: at as u64 };
         }
         let g = draws::take_draw(draws, at);
-        let next = scheme::step(k, p, s, g, rates);
+        let next = scheme::step(kernel, raw, s, g, rates);
         let taken = at + 1;
         match scheme::ensure_finite(next) {
             Finiteness::NonFinite(quantity) => {
@@ -93,9 +101,9 @@ pub fn walk(
             }
             Finiteness::Finite => {}
         }
-        if taken == sched.last[segment] {
+        if taken == schedule.last[segment] {
             let following = segment + 1;
-            rates = scheme::rates_at(k, sched, following);
+            rates = scheme::rates_at(kernel, schedule, following);
             segment = following;
         }
         s = next;

@@ -1,67 +1,82 @@
--- `model::trace::walk` meets its contract. At the loop's head `at` steps are walked, none of which stopped, and the points before `at` are written (`proofs/Tracing.antt`). Assumes nothing.
-use mathlib.Core.Path.{sym, _∙_}
+-- `trace::walk::walk` meets its contract. At the loop's head `at` steps are walked, none of which
+-- stopped, and the points before `at` are written (`proofs/Turns.antt`). Assumes nothing.
+use mathlib.Core.Path.{_≡_, sym, _∙_}
 use Prim.Native.Nat.{_-_, _+_, _<_}
 use native.Mathlib.Omega.{arith}
 use borrow.Author.Needs.{needs}
-use Rattle.model.specs.Walk.{Walk}
-use Rattle.trace.specs.Walked.{Tables, tables, walkOf}
+use lib.ListN.{getD}
+use lib.Ieee.{nan}
+use Rattle.model.specs.Step.{step}
+use Rattle.model.specs.Inner.InUse.{kernelInUse, stateInUse}
 use Rattle.model.proofs.Laws.{rates-own}
 use Rattle.model.proofs.Containment.{reached-open}
-use Rattle.model.proofs.Points.{AllThrough, point-fits, factors-fit}
-use Rattle.model.proofs.Tracing.{Tracing, Given, at-draw, trace-first, trace-point, done-answer, done-tables, stop-answer, stop-tables, trace-on, trace-next}
-use Rattle.model.proofs.trace.walk.Statement.{statement}
-use Rattle.model.proofs.trace.walk.Tie as tie
+use Rattle.trace.specs.Trace.{Tables, tables}
+use Rattle.trace.proofs.Points.{AllThrough, point-fits, factors-fit}
+use Rattle.trace.proofs.Turns.{Walked, Prepared, walkIn, at-draw, walked-none, point-written}
+use Rattle.trace.proofs.Turns.{done-answer, done-tables, stop-answer, stop-tables}
+use Rattle.trace.proofs.Turns.{walked-inside, walked-across}
+use Rattle.trace.proofs.walk.walk.Statement.{statement}
+use Rattle.trace.proofs.walk.walk.Tie as tie
 
 abbrev Inv-loop : tie.InvT-loop
-Inv-loop k p draws spots₀ variances₀ zs₀ factors₀ sched n total s₀ segment₀ rates₀ at₀ spots variances zs factors s segment rates at =
-    Tracing (walkOf k p s₀ sched draws) k sched (tables spots₀ variances₀ zs₀ factors₀) (tables spots variances zs factors) s segment rates at
+Inv-loop draws spots₀ variances₀ z₀ factors₀ kernel raw schedule n total s₀ segment₀ rates₀ at₀ spots variances z factors s segment rates at =
+    Walked (record { kernel = kernel; raw = raw; start = s₀; schedule = schedule }) draws
+    (tables spots₀ variances₀ z₀ factors₀) (tables spots variances z factors) s segment rates at
 
 abbrev μ-loop : tie.MeasureT-loop
-μ-loop k p draws spots₀ variances₀ zs₀ factors₀ sched n total s₀ segment₀ rates₀ at₀ spots variances zs factors s segment rates at =
+μ-loop draws spots₀ variances₀ z₀ factors₀ kernel raw schedule n total s₀ segment₀ rates₀ at₀ spots variances z factors s segment rates at =
     total - at
 
--- ---- the places: the entry, the loop's head, and after the point is written
+-- ---- the places: the entry, what is written, the loop's head, and after the point is written
 abbrev entry : tie.At-loop Inv-loop μ-loop → tie.Start Inv-loop μ-loop
-entry c = c .before .before .before .before .before .before .before
+entry c = c .before .before .before .before .before .before .before .before .before .before .before
+
+abbrev wrote : tie.After-slice-known8 Inv-loop μ-loop → tie.After-write-point Inv-loop μ-loop
+wrote c = c .before .before .before .before .before .before .before .before
 
 abbrev head : tie.After-slice-known8 Inv-loop μ-loop → tie.At-loop Inv-loop μ-loop
-head c = c .before .before .before .before .before .before .before .before .before .before .before .before .before
+head c = wrote c .before .before .before .before .before
 
-abbrev point : tie.After-ensure-finite Inv-loop μ-loop → tie.After-slice-known8 Inv-loop μ-loop
-point c = c .before .before .before .before
-
-abbrev walk : tie.Start Inv-loop μ-loop → Walk
-walk c = walkOf (c .args .k) (c .args .p) (c .args .start) (c .args .t4) (c .args .draws .now)
+abbrev going : tie.After-ensure-finite Inv-loop μ-loop → tie.Else1 Inv-loop μ-loop
+going c = c .before .before .before
 
 abbrev lent : tie.Start Inv-loop μ-loop → Tables
-lent c = tables (c .args .spots .now) (c .args .variances .now) (c .args .zs .now) (c .args .factors .now)
+lent c =
+    tables (c .args .spots .now) (c .args .variances .now) (c .args .z .now) (c .args .factors .now)
 
 abbrev left : tie.After-slice-known8 Inv-loop μ-loop → Tables
 left c =
-    let last = c .before .before .before .before .before .before .before .before .write-point .last .1 .1 .1 in
+    let last = wrote c .write-point .last .1 .1 .1 in
     tables (last .0) (last .1 .0) (last .1 .1 .0) (last .1 .1 .1 .0)
 
-given : (c : tie.Start Inv-loop μ-loop) → Given (c .args .k) (c .args .p) (c .args .start) (c .args .t4) (c .args .draws .now) (lent c)
-given c = record { one = c .pre .0 .0; laid = c .pre .1 .0; size = c .pre .1 .1 .1 }
+prepared : (c : tie.Start Inv-loop μ-loop) → Prepared (c .args .simulation) (lent c)
+prepared c = record { one = c .pre .0 .0; laid = c .pre .1 .0; size = c .pre .1 .1 .1 }
 
-written : (c : tie.After-slice-known8 Inv-loop μ-loop) → AllThrough (walk (entry (head c))) (entry (head c) .args .k .n) (lent (entry (head c))) (left c) (head c .loop .at + 1)
+written :
+    (c : tie.After-slice-known8 Inv-loop μ-loop)
+    → let start = entry (head c) in
+    let m = start .args .simulation in
+    AllThrough (walkIn m (start .args .draws .now)) (m .kernel .n) (lent start) (left c)
+    (head c .loop .at + 1)
 written c =
-    let start = entry (head c) in
-    let wrote = c .before .before .before .before .before .before .before .before .write-point in
-    trace-point (given start) (head c .loop .inv) (left c) (wrote .ensures) (wrote .kept .1 .1 .1 .1 .1 .1 .0)
+    let new = wrote c .write-point in
+    point-written _ _ _ (prepared (entry (head c))) (head c .loop .inv) (left c) (new .ensures)
+    (new .kept .1 .1 .1 .1 .1 .1 .0)
 
 rates-at-requires : tie.Need-rates-at-requires Inv-loop μ-loop
 rates-at-requires c κs = omega arith
 
 loop-holds : tie.Need-loop-holds Inv-loop μ-loop
 loop-holds c =
-    let start = c .before .before .before .before .before .before in
-    trace-first (given start) _ (c .rates-at .ensures)
+    let start = c .before .before .before .before .before .before .before .before .before .before in
+    walked-none _ _ _ (prepared start) _ (c .rates-at .ensures)
 
 write-point-requires : tie.Need-write-point-requires Inv-loop μ-loop
 write-point-requires c κs =
-    let start = c .before .before .before .before .before .before .before .before .before .before .before in
-    let now = c .before .before .before .before .loop in
+    let here = c .before .before .before .before in
+    let start = entry here in
+    let m = start .args .simulation in
+    let now = here .loop in
     let size = start .pre .1 .1 .1 in
     let points = now .inv .points in
     let most = now .inv .most in (
@@ -70,9 +85,10 @@ write-point-requires c κs =
         (
           point-fits (now .spots) _ (points .spots .long ∙ size .spots) most,
           point-fits (now .variances) _ (points .variances .long ∙ size .variances) most,
-          point-fits (now .zs) _ (points .zs .long ∙ size .zs) most,
+          point-fits (now .z) _ (points .z .long ∙ size .z) most,
         ),
-        factors-fit (start .args .k .n) (start .args .t4 .total) (now .factors) _ (points .factors .long ∙ size .factors) most,
+        factors-fit (m .kernel .n) (m .schedule .total) (now .factors) _
+            (points .factors .long ∙ size .factors) most,
       ),
     )
 
@@ -83,36 +99,44 @@ same-length-2 : tie.Need-same-length-2 Inv-loop μ-loop
 same-length-2 c = written (c .before) .variances .long
 
 same-length-3 : tie.Need-same-length-3 Inv-loop μ-loop
-same-length-3 c = written (c .before) .zs .long
+same-length-3 c = written (c .before) .z .long
 
 same-length-4 : tie.Need-same-length-4 Inv-loop μ-loop
 same-length-4 c = written (c .before) .factors .long
 
 returns : tie.Need-returns Inv-loop μ-loop
 returns c =
-    let start = c .before .before .before .before .before .before .before .before .before .before .before .before .before .before .before .before .before .before .before .before .before in
-    let inv = c .before .before .before .before .before .before .before .before .before .before .before .before .before .before .loop .inv in (
-      done-answer (given start) inv (c .if1 .taken),
-      done-tables (given start) inv (left (c .before)) (c .if1 .taken) (written (c .before)),
+    let new = c .before in
+    let now = head new .loop in
+    let known = prepared (entry (head new)) in (
+      done-answer _ _ _ known (now .inv) (c .if1 .taken),
+      done-tables _ _ _ known (now .inv) (left new) (c .if1 .taken) (written new),
     )
 
--- before the last step, and so inside a segment
-unfinished : (c : tie.Else1 Inv-loop μ-loop) → c .before .before .before .before .before .before .before .before .before .before .before .before .before .before .loop .at < c .before .before .before .before .before .before .before .before .before .before .before .before .before .before .before .before .before .before .before .before .before .args .t4 .total
-unfinished c = omega (arith, c .before .before .before .before .before .before .before .before .before .before .before .before .before .before .loop .inv .most, c .if1 .left)
+-- ---- before the last step, and so inside a segment
+module _ (c : tie.Else1 Inv-loop μ-loop) where
+  abbrev here : tie.At-loop Inv-loop μ-loop
+  here = head (c .before)
 
-inside : (c : tie.Else1 Inv-loop μ-loop) → c .before .before .before .before .before .before .before .before .before .before .before .before .before .before .loop .segment < 64
-inside c =
-    let start = c .before .before .before .before .before .before .before .before .before .before .before .before .before .before .before .before .before .before .before .before .before in
-    omega (arith, reached-open (start .args .t4) (start .pre .1 .0) _ _ (c .before .before .before .before .before .before .before .before .before .before .before .before .before .before .loop .inv .reached) (unfinished c), start .pre .1 .0 .few)
+  unfinished : here .loop .at < entry here .args .simulation .schedule .total
+  unfinished = omega (arith, here .loop .inv .most, c .if1 .left)
 
-small : (c : tie.Else1 Inv-loop μ-loop) → c .before .before .before .before .before .before .before .before .before .before .before .before .before .before .loop .at < 4096
-small c = omega (arith, unfinished c, c .before .before .before .before .before .before .before .before .before .before .before .before .before .before .before .before .before .before .before .before .before .pre .1 .0 .short)
+  inside : here .loop .segment < 64
+  inside =
+      let laid = entry here .pre .1 .0 in
+      let one-of = reached-open _ laid _ _ (here .loop .inv .reached) unfinished in
+      omega (arith, one-of, laid .few)
+
+  small : here .loop .at < 4096
+  small = omega (arith, unfinished, entry here .pre .1 .0 .short)
 
 take-draw-requires : tie.Need-take-draw-requires Inv-loop μ-loop
 take-draw-requires c κs = omega (arith, unfinished c, entry (head (c .before)) .pre .1 .1 .0)
 
 step-requires : tie.Need-step-requires Inv-loop μ-loop
-step-requires c κs = (c .before .before .before .before .before .before .before .before .before .before .before .before .before .before .before .before .before .before .before .before .before .before .pre .0 .1, rates-own _ _ _ _ (c .before .before .before .before .before .before .before .before .before .before .before .before .before .before .before .loop .inv .rated))
+step-requires c κs =
+    let here = head (c .before .before) in
+    (entry here .pre .0 .1, rates-own _ _ _ _ (here .loop .inv .rated))
 
 add-taken : tie.Need-add-taken Inv-loop μ-loop
 add-taken c = omega (arith, small (c .before .before))
@@ -124,27 +148,38 @@ enum-known-quantity : tie.Need-enum-known-quantity Inv-loop μ-loop
 enum-known-quantity c = search needs
 
 same-length-5 : tie.Need-same-length-5 Inv-loop μ-loop
-same-length-5 c = written (point (c .before .before .before)) .spots .long
+same-length-5 c = written (going (c .before .before .before) .before) .spots .long
 
 same-length-6 : tie.Need-same-length-6 Inv-loop μ-loop
-same-length-6 c = written (point (c .before .before .before)) .variances .long
+same-length-6 c = written (going (c .before .before .before) .before) .variances .long
 
 same-length-7 : tie.Need-same-length-7 Inv-loop μ-loop
-same-length-7 c = written (point (c .before .before .before)) .zs .long
+same-length-7 c = written (going (c .before .before .before) .before) .z .long
 
 same-length-8 : tie.Need-same-length-8 Inv-loop μ-loop
-same-length-8 c = written (point (c .before .before .before)) .factors .long
+same-length-8 c = written (going (c .before .before .before) .before) .factors .long
+
+-- the step that was taken, with the path's draw
+stepped :
+    (c : tie.After-ensure-finite Inv-loop μ-loop)
+    → let here = head (going c .before) in
+    let m = entry here .args .simulation in
+    stateInUse (m .kernel .n) (c .before .step .result)
+    ≡ step (kernelInUse (m .kernel)) (m .raw) (stateInUse (m .kernel .n) (here .loop .s))
+    (getD (entry here .args .draws .now) (here .loop .at) nan) (here .loop .rates .dt)
+    (here .loop .rates .«sqrt_dt»)
+stepped c = at-draw _ _ _ _ _ (c .before .before .take-draw .ensures) (c .before .step .ensures)
 
 returns-2 : tie.Need-returns-2 Inv-loop μ-loop
 returns-2 c =
     let asked = c .before .before .before in
-    let start = entry (head (point asked)) in
-    let inv = head (point asked) .loop .inv in
-    let stepped = at-draw _ _ _ _ _ (asked .before .before .take-draw .ensures) (asked .before .step .ensures) in
-    let early = unfinished (asked .before .before .before) in
+    let new = going asked .before in
+    let now = head new .loop in
+    let known = prepared (entry (head new)) in
+    let early = unfinished (going asked) in
     let fails = sym (asked .ensure-finite .ensures) ∙ c .before .quantity .given .1 in (
-      stop-answer (given start) inv early _ stepped _ fails,
-      stop-tables (given start) inv early _ stepped _ fails (left (point asked)) (written (point asked)),
+      stop-answer _ _ _ known (now .inv) early _ (stepped asked) _ fails,
+      stop-tables _ _ _ known (now .inv) early _ (stepped asked) _ fails (left new) (written new),
     )
 
 enum-told : tie.Need-enum-told Inv-loop μ-loop
@@ -160,25 +195,35 @@ add-following : tie.Need-add-following Inv-loop μ-loop
 add-following c = omega (arith, inside (c .before .before .before .before .before .before .before))
 
 rates-at-requires-2 : tie.Need-rates-at-requires-2 Inv-loop μ-loop
-rates-at-requires-2 c κs = c .before .before .before .before .before .before .before .before .before .before .before .before .before .before .before .before .before .before .before .before .before .before .before .before .before .before .before .before .pre .0 .1
+rates-at-requires-2 c κs =
+    let asked = c .before .before .before .before in
+    entry (head (going asked .before)) .pre .0 .1
 
 loop-less : tie.Need-loop-less Inv-loop μ-loop
-loop-less c = omega (arith, unfinished (c .before .before .before .before .before .before .before .before))
+loop-less c = omega (arith, unfinished (going (c .before .before .before .before .before)))
 
 loop-again : tie.Need-loop-again Inv-loop μ-loop
 loop-again c =
-    let asked = c .before .before .before .before .before in
-    let start = entry (head (point asked)) in
-    trace-next (given start) (head (point asked) .loop .inv) (unfinished (asked .before .before .before)) _ (at-draw _ _ _ _ _ (asked .before .before .take-draw .ensures) (asked .before .step .ensures)) (sym (asked .ensure-finite .ensures) ∙ c .before .before .before .enum-told .given .1) (left (point asked)) (written (point asked)) (c .before .if2 .taken) _ (c .rates-at2 .ensures)
+    let told = c .before .before .before in
+    let asked = told .before .before in
+    let new = going asked .before in
+    walked-across _ _ _ (prepared (entry (head new))) (head new .loop .inv)
+    (unfinished (going asked)) _ (stepped asked)
+    (sym (asked .ensure-finite .ensures) ∙ told .enum-told .given .1) (left new) (written new)
+    (c .before .if2 .taken) _ (c .rates-at2 .ensures)
 
 loop-less-2 : tie.Need-loop-less-2 Inv-loop μ-loop
-loop-less-2 c = omega (arith, unfinished (c .before .before .before .before .before .before .before))
+loop-less-2 c = omega (arith, unfinished (going (c .before .before .before .before)))
 
 loop-again-2 : tie.Need-loop-again-2 Inv-loop μ-loop
 loop-again-2 c =
-    let asked = c .before .before .before .before in
-    let start = entry (head (point asked)) in
-    trace-on (given start) (head (point asked) .loop .inv) (unfinished (asked .before .before .before)) _ (at-draw _ _ _ _ _ (asked .before .before .take-draw .ensures) (asked .before .step .ensures)) (sym (asked .ensure-finite .ensures) ∙ c .before .before .enum-told .given .1) (left (point asked)) (written (point asked)) (c .if2 .left)
+    let told = c .before .before in
+    let asked = told .before .before in
+    let new = going asked .before in
+    walked-inside _ _ _ (prepared (entry (head new))) (head new .loop .inv)
+    (unfinished (going asked)) _ (stepped asked)
+    (sym (asked .ensure-finite .ensures) ∙ told .enum-told .given .1) (left new) (written new)
+    (c .if2 .left)
 
 pub walk-spec : {M : Type 1} → statement M
 walk-spec =

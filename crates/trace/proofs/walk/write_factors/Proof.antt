@@ -1,12 +1,12 @@
--- `model::trace::write_factors` meets its contract: the first i values are written. Assumes nothing.
+-- `trace::walk::write_factors` meets its contract: the first i values are written. Assumes nothing.
 use Prim.Native.Nat.{_*_, _-_, _≤_}
 use mathlib.Core.Path.{_≡_, refl}
 use native.Mathlib.Omega.{arith}
 use lib.ListN.{length, length-set}
-use Rattle.trace.specs.Walked.{Written}
-use Rattle.model.proofs.Points.{written-none, written-more}
-use Rattle.model.proofs.trace.write_factors.Statement.{statement}
-use Rattle.model.proofs.trace.write_factors.Tie as tie
+use Rattle.trace.specs.Inner.Points.{Written}
+use Rattle.trace.proofs.Points.{written-none, written-more}
+use Rattle.trace.proofs.walk.write_factors.Statement.{statement}
+use Rattle.trace.proofs.walk.write_factors.Tie as tie
 
 abbrev Inv-loop : tie.InvT-loop
 Inv-loop n point factors₀ values i₀ factors i =

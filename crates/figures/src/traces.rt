@@ -27,7 +27,7 @@ struct Step {
 fn one_step(weight: f64, discount: f64, draw: f64) -> Step {
     let mut spots = [0.0; 2];
     let mut variances = [0.0; 2];
-    let mut zs = [0.0; 2];
+    let mut z = [0.0; 2];
     let mut factors = [0.0; 2];
     let answer = terminal::qrh_trace(
         &[weight],
@@ -37,7 +37,7 @@ fn one_step(weight: f64, discount: f64, draw: f64) -> Step {
         &[draw],
         &mut spots,
         &mut variances,
-        &mut zs,
+        &mut z,
         &mut factors,
     );
     let place = answer.place;
@@ -46,7 +46,7 @@ fn one_step(weight: f64, discount: f64, draw: f64) -> Step {
         place: place,
         spot: spots[1],
         factor: factors[1],
-        z: zs[1],
+        z: z[1],
         variance: variances[1],
     }
 }
@@ -76,7 +76,7 @@ fn is_out_of_range(weight: f64, discount: f64, table: u64) -> bool {
 fn number_of(weights: &[f64], discounts: &[f64]) -> u32 {
     let mut spots = [0.0; 2];
     let mut variances = [0.0; 2];
-    let mut zs = [0.0; 2];
+    let mut z = [0.0; 2];
     let mut factors = [0.0; 20];
     let answer = terminal::qrh_trace(
         weights,
@@ -86,7 +86,7 @@ fn number_of(weights: &[f64], discounts: &[f64]) -> u32 {
         &[0.5],
         &mut spots,
         &mut variances,
-        &mut zs,
+        &mut z,
         &mut factors,
     );
     answer.number
@@ -97,7 +97,7 @@ fn number_of(weights: &[f64], discounts: &[f64]) -> u32 {
 fn many_steps(steps: u32, number: u32, segment_at: u64, spot: f64) -> bool {
     let mut spots = [0.0; 4097];
     let mut variances = [0.0; 4097];
-    let mut zs = [0.0; 4097];
+    let mut z = [0.0; 4097];
     let mut factors = [0.0; 4097];
     let answer = terminal::qrh_trace(
         &[1.0],
@@ -107,7 +107,7 @@ fn many_steps(steps: u32, number: u32, segment_at: u64, spot: f64) -> bool {
         &[0.0; 4096],
         &mut spots,
         &mut variances,
-        &mut zs,
+        &mut z,
         &mut factors,
     );
     let place = answer.place;
@@ -118,7 +118,7 @@ fn many_steps(steps: u32, number: u32, segment_at: u64, spot: f64) -> bool {
 fn uses_own_dt() -> bool {
     let mut spots = [0.0; 6];
     let mut variances = [0.0; 6];
-    let mut zs = [0.0; 6];
+    let mut z = [0.0; 6];
     let mut factors = [0.0; 6];
     let answer = terminal::qrh_trace(
         &[1.0],
@@ -128,10 +128,10 @@ fn uses_own_dt() -> bool {
         &[0.0; 5],
         &mut spots,
         &mut variances,
-        &mut zs,
+        &mut z,
         &mut factors,
     );
-    (answer.number == 0) & same(zs[1], 0.375) & same(zs[2], 0.140625) & same(zs[3], 0.0234375)
+    (answer.number == 0) & same(z[1], 0.375) & same(z[2], 0.140625) & same(z[3], 0.0234375)
 }
 
 fn ranges(wrong: u64) -> u64 {

@@ -12,7 +12,7 @@ use crate::words::after;
 use crate::words::after_list;
 use model::Params;
 use model::Segments;
-use terminal::TraceAnswer;
+use trace::Tracing;
 
 // Whether the four tables are as at a place of the file, and end there.
 fn same_tables(
@@ -34,7 +34,7 @@ fn same_tables(
         & (after_list(file, factors_at) == end)
 }
 
-fn same_answer(file: &[u8], at: usize, answer: TraceAnswer) -> bool {
+fn same_answer(file: &[u8], at: usize, answer: Tracing) -> bool {
     let place = answer.place;
     same_head(file, at, answer.number, place) & same_counts(file, after_head(at), &[answer.steps])
 }

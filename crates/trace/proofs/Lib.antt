@@ -1,0 +1,3 @@
+mod Points
+mod Turns
+mod Answers
