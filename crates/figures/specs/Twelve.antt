@@ -16,10 +16,10 @@ use Rattle.doors.specs.Questions.{rangeQuestions, scaleQuestions}
 use Rattle.model.specs.Schedule.{stepsThrough}
 use Rattle.trace.specs.Trace.{tables, tableAfter}
 use Rattle.trace.specs.Call.{traceInputs, traceCall, traceTables}
-use Rattle.matrix.specs.Call.{exponentialCall, exponentialTable}
+use Rattle.exponentiation.specs.Call.{matrixInputs, exponentialCall, exponentialTable}
 use Rattle.refusal.specs.Refusal.{noPlace}
 use Rattle.terminal.specs.Answers.{conversion, vanillaAnswer}
-use Rattle.terminal.specs.Answers.{exponentialAnswer, evaluatedAnswer}
+use Rattle.terminal.specs.Answers.{evaluatedAnswer}
 use Rattle.calls.specs.declared.Factors.{Factors}
 use Rattle.calls.specs.Vanilla.{vanillaCall}
 use Rattle.calls.specs.VixCall.{vixInputs, vixCall}
@@ -75,8 +75,9 @@ priced draws =
 -- a matrix of dimension 2
 abbrev pub powered : List Float → Figure
 powered input =
-    let a = exponentialAnswer (exponentialCall 2 input 4 20) in
-    figure (a .number) (a .place) (exponentialTable 2 input (lent 4) 20) (a .squarings ∷ [])
+    let i = matrixInputs 2 input (lent 4) (lent 20) in
+    let a = exponentialCall i in
+    figure (a .number) (a .place) (exponentialTable i) (a .squarings ∷ [])
 
 -- with a = 0, at the factor 0
 abbrev pub factorZero : Factors

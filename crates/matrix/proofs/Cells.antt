@@ -2,7 +2,8 @@
 use mathlib.Core.Path.{_≡_, sym, ap, _∙_, subst}
 use mathlib.Core.List.{List}
 use Prim.Native.Nat.{ℕ, zero, suc, _+_, _*_, _/_, _%_, _≤_, _<_}
-use native.Mathlib.Nat.{mul-le-mul, mul-le-mul-right, suc-mul, mod-lt, div-lt-iff-lt-mul, div-add-mod'}
+use native.Mathlib.Nat.{mul-le-mul, mul-le-mul-right, suc-mul, mod-lt}
+use native.Mathlib.Nat.{div-lt-iff-lt-mul, div-add-mod'}
 use native.Mathlib.Omega.{arith}
 use lib.Arith.{digits-lt, digits-div, digits-mod}
 use lib.ListN.{length, getD, drop, length-drop}
@@ -10,7 +11,7 @@ use lib.Seq.{ext-getD, length-take-le, getD-take, getD-drop}
 use lib.Ieee.{Float, nan}
 use Rattle.numeric.proofs.Tables.{length-tabulate, getD-tabulate}
 use Rattle.matrix.specs.Matrix.{entry, matrix}
-use Rattle.matrix.specs.Workspace.{matrixAt}
+use Rattle.matrix.specs.Inner.Workspace.{matrixAt}
 
 -- a cell of a matrix of dimension n is among its n × n
 pub inside : {n i j : ℕ} → i < n → j < n → i * n + j < n * n

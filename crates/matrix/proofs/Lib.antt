@@ -5,8 +5,3 @@ pub mod Products
 pub mod Rows
 pub mod Diagonal
 pub mod Workspaces
-pub mod Series
-pub mod Powers
-pub mod Least
-pub mod Outcome
-pub mod Answers

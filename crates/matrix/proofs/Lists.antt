@@ -1,17 +1,17 @@
--- Small laws of the definitions: a further turn of a loop is a further step of them. Assumes nothing.
-use mathlib.Core.Path.{_≡_, refl, sym, ap, _∙_, subst}
+-- Parts of a list; entries times a factor; every entry finite. Assumes nothing.
+use mathlib.Core.Path.{_≡_, sym, ap, _∙_, subst}
 use mathlib.Core.Bool.{true, false, _&&_}
 use mathlib.Core.List.{List, _++_}
 use Prim.Native.Nat.{ℕ, suc, _+_, _-_, _≤_, _<_}
-use native.Mathlib.Nat.{le-antisymm}
 use native.Mathlib.Numerals.{add-one}
 use native.Mathlib.Omega.{arith}
-use lib.ListN.{length, getD, take, drop, length-drop, length-map, List·getD-map, List·getD-append, drop-of-length-le}
+use lib.ListN.{length, getD, take, drop, length-drop, length-map}
+use lib.ListN.{List·getD-map, List·getD-append, drop-of-length-le}
 use lib.Seq.{drop-cons, getD-append-add, length-take-le, getD-take, getD-drop}
 use lib.Ieee.{Float, nan, mul}
 use borrow.Rule.Slice.PartMut.{putMid, postOf}
-use Rattle.numeric.specs.Double.{plusZero, plus, times, finite, magnitude, larger}
-use Rattle.matrix.specs.Matrix.{entry, scaled, allFinite, columnSum, largestSum, norm1}
+use Rattle.numeric.specs.Double.{times, finite}
+use Rattle.matrix.specs.Matrix.{scaled, allFinite}
 
 -- ---- a part of a list
 
@@ -65,29 +65,3 @@ finite-not m k h e = rw (finite-cons m k h, e)
 
 pub finite-more : (m : List Float) (k : ℕ) → k < length m → finite (getD m k nan) ≡ true → allFinite (drop k m) ≡ allFinite (drop (k + 1) m)
 finite-more m k h e = rw (add-one, finite-cons m k h, e)
-
--- ---- the norm
-
-module _ (n : ℕ) (a : List Float) where
-  pub sum-none : (j : ℕ) → plusZero ≡ columnSum n a j 0
-  unfolding columnSum
-  sum-none j = refl
-
-  pub sum-more : (j i : ℕ) (s x : Float) → s ≡ columnSum n a j i → x ≡ magnitude (entry n a i j) → plus s x ≡ columnSum n a j (i + 1)
-  unfolding columnSum
-  sum-more j i s x e h = rw (add-one, e, h)
-
-  pub sum-all : (j i : ℕ) (s : Float) → s ≡ columnSum n a j i → i ≤ n → n ≤ i → s ≡ columnSum n a j n
-  sum-all j i s e l h = e ∙ ap (columnSum n a j) (le-antisymm l h)
-
-  pub largest-none : plusZero ≡ largestSum n a 0
-  unfolding largestSum
-  largest-none = refl
-
-  pub largest-more : (j : ℕ) (s x y : Float) → s ≡ largestSum n a j → x ≡ columnSum n a j n → y ≡ larger s x → y ≡ largestSum n a (j + 1)
-  unfolding largestSum
-  largest-more j s x y e h m = rw (add-one, m, e, h)
-
-  pub largest-all : (j : ℕ) (s : Float) → s ≡ largestSum n a j → j ≤ n → n ≤ j → s ≡ norm1 n a
-  unfolding norm1
-  largest-all j s e l h = e ∙ ap (largestSum n a) (le-antisymm l h)

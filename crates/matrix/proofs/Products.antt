@@ -13,7 +13,7 @@ use borrow.Author.Tests.{not-true, not-false}
 use Rattle.numeric.specs.Double.{plus, times, plusZero}
 use Rattle.matrix.specs.Matrix.{entry, withTerm, termSum, product}
 use borrow.Rule.Slice.PartMut.{putMid, midOf, same-len-mid}
-use Rattle.matrix.specs.Workspace.{Added, ColumnSums, Filled}
+use Rattle.matrix.specs.Inner.Workspace.{Added, ColumnSums, Filled}
 use Rattle.matrix.proofs.Cells.{row-end, length-matrix, entry-matrix}
 use Rattle.matrix.proofs.Lists.{part-length, part-at, put-before, put-in}
 

@@ -11,7 +11,7 @@ use lib.Arith.{digits-lt}
 use lib.Ieee.{Float, nan}
 use borrow.Rule.Slice.PartMut.{putMid, midOf, same-len-mid}
 use Rattle.matrix.specs.Matrix.{entry, termSum, product}
-use Rattle.matrix.specs.Workspace.{matrixAt, Multiplied}
+use Rattle.matrix.specs.Inner.Workspace.{matrixAt, Multiplied}
 use Rattle.matrix.proofs.Lists.{part-length, part-at, put-before, put-in}
 use Rattle.matrix.proofs.Cells.{inside, row-end, length-at, cell-at, same-matrix}
 use Rattle.matrix.proofs.Products.{length-product, entry-product, terms-same, first-row}

@@ -1,4 +1,5 @@
--- A loop that stores one value a turn, at one place after the other, and what it leaves. Assumes nothing.
+-- A loop that stores one value a turn, at one place after the other, and what it leaves.
+-- Assumes nothing.
 use mathlib.Core.Path.{_≡_, refl, sym, ap, _∙_, subst}
 use mathlib.Core.Logic.{_⊎_, inl, inr}
 use mathlib.Core.List.{List}
@@ -8,7 +9,7 @@ use native.Mathlib.Decide.{decLe}
 use lib.ListN.{length, getD, set, length-set}
 use lib.Seq.{getD-set-same, getD-set-other, ext-getD}
 use lib.Ieee.{Float, nan}
-use Rattle.matrix.specs.Workspace.{Moved}
+use Rattle.matrix.specs.Inner.Workspace.{Moved}
 
 -- the elements from `at` up to, not including, `next` are v's, and the others are as they were
 pub record Stored (at : ℕ) (v : ℕ → Float) (before now : List Float) (next : ℕ) : Type 0 where

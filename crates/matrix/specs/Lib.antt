@@ -1,5 +1,2 @@
 pub mod Matrix
-pub mod Exponential
-pub mod Workspace
-pub mod Call
-pub mod Samples
+pub mod Inner

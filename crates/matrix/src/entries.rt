@@ -5,10 +5,10 @@ ghost use mathlib.Core.Logic.{_⊎_};
 ghost use lib.ListN.{length, replicate};
 ghost use Rattle.numeric.specs.Double.{plusZero};
 ghost use Rattle.matrix.specs.Matrix.{scaled, plusIdentity, allFinite};
-ghost use Rattle.matrix.specs.Workspace.{Moved};
+ghost use Rattle.matrix.specs.Inner.Workspace.{Moved};
 
 // Whether every entry is finite.
-pub(crate) fn is_finite(m: &[f64]) -> bool
+pub fn is_finite(m: &[f64]) -> bool
     ensures { λ r. ⌜ r ≡ allFinite (now (m .entry)) ⌝ }
 {
     let mut k = 0;
@@ -22,7 +22,7 @@ pub(crate) fn is_finite(m: &[f64]) -> bool
 }
 
 // Copies from to into, which is as long.
-pub(crate) fn copy(from: &[f64], into: &mut [f64])
+pub fn copy(from: &[f64], into: &mut [f64])
     requires { ⌜ length (now from) ≡ length (now into) ⌝ }
     ensures { λ _. ⌜ now (into .exit) ≡ now (from .entry) ⌝ }
 {
@@ -34,7 +34,7 @@ pub(crate) fn copy(from: &[f64], into: &mut [f64])
 }
 
 // Copies the size doubles at from to the place into of the same workspace, apart from them.
-pub(crate) fn move_matrix(size: usize, from: usize, into: usize, work: &mut [f64])
+pub fn move_matrix(size: usize, from: usize, into: usize, work: &mut [f64])
     requires { ⌜ (from + size ≤ length (now work)) × (into + size ≤ length (now work)) ⌝ }
     requires { ⌜ (into + size ≤ from) ⊎ (from + size ≤ into) ⌝ }
     ensures { λ _. ⌜ Moved size from into (now (work .entry)) (now (work .exit)) ⌝ }
@@ -47,7 +47,7 @@ pub(crate) fn move_matrix(size: usize, from: usize, into: usize, work: &mut [f64
 }
 
 // Each entry times factor.
-pub(crate) fn scale(factor: f64, m: &mut [f64])
+pub fn scale(factor: f64, m: &mut [f64])
     ensures { λ _. ⌜ now (m .exit) ≡ scaled factor (now (m .entry)) ⌝ }
 {
     let mut k = 0;
@@ -58,7 +58,7 @@ pub(crate) fn scale(factor: f64, m: &mut [f64])
 }
 
 // Every entry 0.
-pub(crate) fn clear(m: &mut [f64])
+pub fn clear(m: &mut [f64])
     ensures { λ _. ⌜ now (m .exit) ≡ replicate (length (now (m .entry))) plusZero ⌝ }
 {
     let mut k = 0;
@@ -69,7 +69,7 @@ pub(crate) fn clear(m: &mut [f64])
 }
 
 // + 1 on the diagonal.
-pub(crate) fn add_diagonal(dim: usize, m: &mut [f64])
+pub fn add_diagonal(dim: usize, m: &mut [f64])
     requires { ⌜ (dim ≤ 67) × (length (now m) ≡ dim * dim) ⌝ }
     ensures { λ _. ⌜ now (m .exit) ≡ plusIdentity dim (now (m .entry)) ⌝ }
 {

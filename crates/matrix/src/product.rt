@@ -1,13 +1,13 @@
 // The product of two matrices of a workspace. Rust's `multiply_into` works a row of the product out
-// of the rows of the right matrix. Here a row is filled by blocks of columns, and each block is summed
-// in a local array, so that its sums stay in registers. The row is stored once it is whole.
+// of the rows of the right matrix. Here a row is filled by blocks of columns, and each block is
+// summed in a local array, so that its sums stay in registers. The row is stored once it is whole.
 ghost use mathlib.Core.Path.{_≡_};
 ghost use Prim.Native.Nat.{ℕ, _+_, _*_, _≤_, _<_};
 ghost use lib.Ieee.{nan};
 ghost use lib.ListN.{length, getD};
 ghost use Rattle.matrix.specs.Matrix.{termSum, product};
-ghost use Rattle.matrix.specs.Workspace.{matrixAt, Added, Factors, ColumnSums, Filled};
-ghost use Rattle.matrix.specs.Workspace.{Multiplied, First};
+ghost use Rattle.matrix.specs.Inner.Workspace.{matrixAt, Added, Factors, ColumnSums, Filled};
+ghost use Rattle.matrix.specs.Inner.Workspace.{Multiplied, First};
 use crate::entries;
 
 // sums + left * right, entry by entry.
@@ -89,8 +89,10 @@ fn fill_next(dim: usize, left: &[f64], right: &[f64], j: usize, row: &mut [f64])
 
 // A row of the product: the left matrix's row times the right matrix.
 fn product_row(dim: usize, left: &[f64], right: &[f64], row: &mut [f64])
-    requires { ⌜ (dim ≤ 67) × (length (now left) ≡ dim) × (length (now right) ≡ dim * dim) × (length (now row) ≡ dim) ⌝ }
-    ensures { λ _. ⌜ ((j : ℕ) → j < dim → getD (now (row .exit)) j nan ≡ termSum dim (now (left .entry)) (now (right .entry)) 0 j dim) ⌝ }
+    requires { ⌜ (dim ≤ 67) × (length (now left) ≡ dim)
+        × (length (now right) ≡ dim * dim) × (length (now row) ≡ dim) ⌝ }
+    ensures { λ _. ⌜ ((j : ℕ) → j < dim → getD (now (row .exit)) j nan
+        ≡ termSum dim (now (left .entry)) (now (right .entry)) 0 j dim) ⌝ }
 {
     let mut j = 0;
     while j < dim {
@@ -117,9 +119,11 @@ fn multiply_into(dim: usize, left: usize, work: &mut [f64])
 }
 
 // The first matrix of work becomes the product of the one at left and itself.
-pub(crate) fn multiply(dim: usize, left: usize, work: &mut [f64])
+pub fn multiply(dim: usize, left: usize, work: &mut [f64])
     requires { ⌜ (dim ≤ 67) × (left ≤ dim * dim) × (length (now work) ≡ 5 * (dim * dim)) ⌝ }
-    ensures { λ _. ⌜ First dim (product dim (matrixAt dim left (now (work .entry))) (matrixAt dim 0 (now (work .entry)))) (now (work .entry)) (now (work .exit)) ⌝ }
+    ensures { λ _. ⌜ First dim
+        (product dim (matrixAt dim left (now (work .entry))) (matrixAt dim 0 (now (work .entry))))
+        (now (work .entry)) (now (work .exit)) ⌝ }
 {
     let size = dim * dim;
     multiply_into(dim, left, work);

@@ -11,9 +11,9 @@ use crate::tables::workspace;
 use crate::tables::zeros;
 use crate::words::after;
 use crate::words::after_list;
-use terminal::ExponentialAnswer;
+use exponentiation::Exponentiation;
 
-fn same_answer(file: &[u8], at: usize, answer: ExponentialAnswer) -> bool {
+fn same_answer(file: &[u8], at: usize, answer: Exponentiation) -> bool {
     let place = answer.place;
     same_head(file, at, answer.number, place)
         & same_counts(file, after_head(at), &[answer.squarings])

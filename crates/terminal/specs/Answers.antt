@@ -7,10 +7,7 @@ use Rattle.decimal.specs.declared.Converted.the-variants.{Value, ScaleTooLarge}
 use Rattle.numeric.specs.Double.{plusZero}
 use Rattle.refusal.specs.Refusal.{numberOf, placeOf, noPlace}
 use Rattle.batch.specs.Claim.{BatchAnswer}
-use Rattle.matrix.specs.declared.Answer.{Answer}
-use Rattle.matrix.specs.declared.Answer.the-variants as exponentiation
 use Rattle.terminal.specs.declared.Conversion.{Conversion}
-use Rattle.terminal.specs.declared.ExponentialAnswer.{ExponentialAnswer}
 use Rattle.calls.specs.declared.Evaluation.{Evaluation}
 use Rattle.calls.specs.declared.Evaluation.the-variants as evaluation
 use Rattle.terminal.specs.declared.VixAnswer.{VixAnswer}
@@ -62,13 +59,6 @@ readVanilla a =
       counts = a .paths ∷ a .«non_positive» ∷ [];
       steps = a .steps;
     }
-
--- exponentiating a matrix: the number of squarings; at a refusal its number and place
-abbrev pub exponentialAnswer : Answer → ExponentialAnswer
-exponentialAnswer (exponentiation.Done squarings) =
-    record { number = 0; place = noPlace; squarings = squarings }
-exponentialAnswer (exponentiation.Refused refusal) =
-    record { number = numberOf refusal; place = placeOf refusal; squarings = 0 }
 
 -- evaluating the VIX: VIX squared and the index; at a refusal its number and place
 abbrev pub evaluatedAnswer : Evaluation → VixAnswer

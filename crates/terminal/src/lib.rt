@@ -6,7 +6,7 @@ use calls::Priced;
 use calls::VixPayoff;
 use decimal::Converted;
 use decimal::Decimal;
-use matrix::Answer;
+use exponentiation::Exponentiation;
 use model::Params;
 use model::Segments;
 use trace::Tracing;
@@ -20,12 +20,12 @@ ghost use Rattle.decimal.specs.Decimal.{convert, ConvertsToNearest};
 ghost use Rattle.model.specs.Simulation.{given};
 ghost use Rattle.trace.specs.Trace.{tables};
 ghost use Rattle.trace.specs.Call.{traceInputs, TraceAnswered};
-ghost use Rattle.matrix.specs.Call.{sizeQuestions, exponentialCall, exponentialTable};
+ghost use Rattle.exponentiation.specs.Call.{matrixInputs, ExponentialAnswered};
 ghost use Rattle.refusal.specs.Questions.{firstNo, KeptUnlessPassed};
 ghost use Rattle.calls.specs.VixBatch.{vixBatchInputs, vixBatchCall, vixBatchTable, VixBatchClaim};
 ghost use Rattle.calls.specs.VixBatch.{throughSixteen};
 ghost use Rattle.calls.specs.VixCall.{vixInputs, vixCall, throughWorkspace};
-ghost use Rattle.terminal.specs.Answers.{conversion, exponentialAnswer};
+ghost use Rattle.terminal.specs.Answers.{conversion};
 ghost use Rattle.terminal.specs.Answers.{evaluatedAnswer, vanillaAnswer, readVanilla};
 ghost use Rattle.terminal.specs.Answers.{vixBatchAnswer, readVixBatch};
 ghost use Rattle.calls.specs.Vanilla.{vanillaInputs, vanillaCall, vanillaTable, VanillaClaim};
@@ -237,51 +237,18 @@ pub extern "C" fn qrh_mirrored(
     ))
 }
 
-#[repr(C)]
-pub struct ExponentialAnswer {
-    pub number: u32,
-    pub place: [u64; 4],
-    pub squarings: u64,
-}
-
-fn exponential_answer(call: Answer) -> ExponentialAnswer
-    ensures { λ r. ⌜ r ≡ exponentialAnswer call ⌝ }
-{
-    match call {
-        Answer::Done(squarings) => {
-            let count = squarings as u64;
-            ExponentialAnswer {
-                number: 0,
-                place: [0; 4],
-                squarings: count,
-            }
-        }
-        Answer::Refused(refusal) => {
-            let number = refusal::number(refusal);
-            let place = refusal::place(refusal);
-            ExponentialAnswer {
-                number: number,
-                place: place,
-                squarings: 0,
-            }
-        }
-    }
-}
-
 #[no_mangle]
 pub extern "C" fn qrh_exponential(
     dimension: usize,
     input: &[f64],
     output: &mut [f64],
     workspace: &mut [f64],
-) -> ExponentialAnswer
-    ensures answer { λ r. ⌜ r ≡ exponentialAnswer (exponentialCall dimension (now (input .entry)) (length (now (output .entry))) (length (now (workspace .entry)))) ⌝ }
-    ensures output { λ r. ⌜ now (output .exit) ≡ exponentialTable dimension (now (input .entry)) (now (output .entry)) (length (now (workspace .entry))) ⌝ }
-    ensures workspace { λ r. ⌜ KeptUnlessPassed
-        (firstNo (sizeQuestions dimension (length (now (input .entry))) (length (now (output .entry))) (length (now (workspace .entry)))))
-        (now (workspace .entry)) (now (workspace .exit)) ⌝ }
+) -> Exponentiation
+    ensures { λ r. ⌜ ExponentialAnswered
+        (matrixInputs dimension (now (input .entry)) (now (output .entry)) (now (workspace .entry)))
+        r (now (output .exit)) (now (workspace .exit)) ⌝ }
 {
-    exponential_answer(matrix::exponentiate(dimension, input, output, workspace))
+    exponentiation::exponentiate(dimension, input, output, workspace)
 }
 
 #[repr(C)]

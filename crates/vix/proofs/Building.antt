@@ -8,10 +8,11 @@ use lib.ListN.{take}
 use lib.Ieee.{Float}
 use Rattle.model.specs.declared.Kernel.{Kernel}
 use Rattle.model.specs.declared.RawParams.{RawParams}
-use Rattle.matrix.specs.Exponential.{exponential}
-use Rattle.matrix.specs.Workspace.{matrixAt, exponentiated, Holds}
-use Rattle.matrix.specs.declared.Exponentiated.{Exponentiated}
-use Rattle.matrix.specs.declared.Exponentiated.the-variants as answers
+use Rattle.exponential.specs.Exponential.{exponential}
+use Rattle.matrix.specs.Inner.Workspace.{matrixAt}
+use Rattle.exponential.specs.Inner.Workspace.{exponentiated, Holds}
+use Rattle.exponential.specs.declared.Exponentiated.{Exponentiated}
+use Rattle.exponential.specs.declared.Exponentiated.the-variants as answers
 use Rattle.vix.specs.declared.Vix.{Vix}
 use Rattle.vix.specs.declared.Built.{Built}
 use Rattle.vix.specs.declared.Built.the-variants.{Done, NotFinite}

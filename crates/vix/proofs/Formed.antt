@@ -11,7 +11,7 @@ use Rattle.numeric.specs.Double.{over}
 use Rattle.numeric.specs.Table.{tabulate}
 use Rattle.numeric.proofs.Tables.{tabulate-same}
 use Rattle.matrix.specs.Matrix.{entry}
-use Rattle.matrix.specs.Workspace.{matrixAt}
+use Rattle.matrix.specs.Inner.Workspace.{matrixAt}
 use Rattle.matrix.proofs.Cells.{inside}
 use Rattle.vix.specs.declared.Vix.{Vix}
 use Rattle.vix.specs.Form.{pairsBefore, vixInUse}

@@ -10,7 +10,7 @@ use Rattle.numeric.specs.Table.{tabulate}
 use Rattle.model.specs.declared.Kernel.{Kernel}
 use Rattle.model.specs.declared.RawParams.{RawParams}
 use Rattle.matrix.specs.Matrix.{entry}
-use Rattle.matrix.specs.Exponential.{exponential, exponentialFinite}
+use Rattle.exponential.specs.Exponential.{exponential, exponentialFinite}
 use Rattle.vix.specs.declared.Vix.{Vix}
 use Rattle.vix.specs.declared.Built.{Built}
 use Rattle.vix.specs.declared.Built.the-variants.{Done, NotFinite}

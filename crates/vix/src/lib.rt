@@ -13,7 +13,7 @@ mod generator;
 mod rows;
 mod state;
 
-use matrix::Exponentiated;
+use exponential::Exponentiated;
 use model::Kernel;
 use model::RawParams;
 
@@ -124,7 +124,7 @@ pub fn build(k: Kernel, p: RawParams, window: f64, work: &mut [f64]) -> VixDoor
     let n = k.n;
     let dim = dimension_of(n);
     generator::fill(k, p, window, dim, work);
-    match matrix::exponential(dim, work) {
+    match exponential::exponential(dim, work) {
         Exponentiated::NotFinite => VixDoor {
             outcome: Built::NotFinite,
             vix: no_form(n),

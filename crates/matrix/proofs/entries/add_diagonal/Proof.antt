@@ -1,4 +1,5 @@
--- `add_diagonal` meets its contract: after i turns the first i entries of the diagonal have their 1. Assumes nothing.
+-- `add_diagonal` meets its contract: after i turns the first i entries of the diagonal have their 1.
+-- Assumes nothing.
 use Prim.Native.Nat.{_≤_, _<_, _-_, _+_, _*_}
 use native.Mathlib.Omega.{arith}
 use lib.ListN.{length}

@@ -1,4 +1,5 @@
--- `scale` meets its contract: a pass whose values are the entries times the factor. Assumes nothing.
+-- `scale` meets its contract: a pass whose values are the entries times the factor.
+-- Assumes nothing.
 use mathlib.Core.Path.{refl, sym, ap}
 use Prim.Native.Nat.{_≤_, _-_}
 use native.Mathlib.Omega.{arith}

@@ -1,11 +1,12 @@
--- `column_sums` meets its contract: after k turns the sums have their first k terms. Assumes nothing.
+-- `column_sums` meets its contract: after k turns the sums have their first k terms.
+-- Assumes nothing.
 use mathlib.Core.Path.{sym, _∙_}
 use mathlib.Core.Logic.{⊎-elim}
 use Prim.Native.Nat.{_≤_, _<_, _-_, _+_, _*_}
 use native.Mathlib.Omega.{arith}
 use lib.ListN.{length}
 use lib.Ieee.{ofBits}
-use Rattle.matrix.specs.Workspace.{ColumnSums}
+use Rattle.matrix.specs.Inner.Workspace.{ColumnSums}
 use Rattle.matrix.proofs.Products.{sums-none, sums-skip, sums-add, sums-all}
 use Rattle.matrix.proofs.Cells.{row-end, small}
 use Rattle.matrix.proofs.Lists.{part-length}

@@ -1,4 +1,5 @@
--- `multiply_into` meets its contract: after i turns the third matrix has the first i rows of the product. Assumes nothing.
+-- `multiply_into` meets its contract: after i turns the third matrix has the first i rows of the
+-- product. Assumes nothing.
 use mathlib.Core.Path.{_≡_, refl, sym, ap, _∙_}
 use mathlib.Core.List.{List, _++_}
 use Prim.Native.Nat.{ℕ, _+_, _-_, _*_, _≤_, _<_}

@@ -2,7 +2,7 @@
 use mathlib.Core.Path.{sym, _∙_}
 use Prim.Native.Nat.{_-_}
 use native.Mathlib.Omega.{arith}
-use Rattle.matrix.specs.Workspace.{Filled}
+use Rattle.matrix.specs.Inner.Workspace.{Filled}
 use Rattle.matrix.proofs.Products.{filled-none}
 use Rattle.matrix.proofs.product.product_row.Statement.{statement}
 use Rattle.matrix.proofs.product.product_row.Tie as tie

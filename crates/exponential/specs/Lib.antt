@@ -1,0 +1,4 @@
+pub mod Norm
+pub mod Exponential
+pub mod Inner
+pub mod Samples
