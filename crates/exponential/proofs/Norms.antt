@@ -14,18 +14,23 @@ module _ (n : ℕ) (a : List Float) where
   unfolding columnSum
   sum-none j = refl
 
-  pub sum-more : (j i : ℕ) (s x : Float) → s ≡ columnSum n a j i → x ≡ magnitude (entry n a i j) → plus s x ≡ columnSum n a j (i + 1)
+  pub sum-more :
+      (j i : ℕ) (s x : Float) → s ≡ columnSum n a j i → x ≡ magnitude (entry n a i j)
+      → plus s x ≡ columnSum n a j (i + 1)
   unfolding columnSum
   sum-more j i s x e h = rw (add-one, e, h)
 
-  pub sum-all : (j i : ℕ) (s : Float) → s ≡ columnSum n a j i → i ≤ n → n ≤ i → s ≡ columnSum n a j n
+  pub sum-all :
+      (j i : ℕ) (s : Float) → s ≡ columnSum n a j i → i ≤ n → n ≤ i → s ≡ columnSum n a j n
   sum-all j i s e l h = e ∙ ap (columnSum n a j) (le-antisymm l h)
 
   pub largest-none : plusZero ≡ largestSum n a 0
   unfolding largestSum
   largest-none = refl
 
-  pub largest-more : (j : ℕ) (s x y : Float) → s ≡ largestSum n a j → x ≡ columnSum n a j n → y ≡ larger s x → y ≡ largestSum n a (j + 1)
+  pub largest-more :
+      (j : ℕ) (s x y : Float) → s ≡ largestSum n a j → x ≡ columnSum n a j n → y ≡ larger s x
+      → y ≡ largestSum n a (j + 1)
   unfolding largestSum
   largest-more j s x y e h m = rw (add-one, m, e, h)
 

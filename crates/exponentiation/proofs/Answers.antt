@@ -159,5 +159,6 @@ module _ (i : MatrixInputs) where
       done s after q h =
           let all-finite = is-true isFinite _ _ q in
           let passed = all-passed all-finite in
-          let count : Done s ≡ Done (squarings (norm1 (i .dimension) (i .input))) = q ∙ rw all-finite in
+          let found = squarings (norm1 (i .dimension) (i .input)) in
+          let count : Done s ≡ Done found = q ∙ rw all-finite in
           record { answer = ap told count ∙ rw passed; output = rw passed h; workspace = free }

@@ -53,7 +53,7 @@ exponentialQuestions i =
 abbrev pub answered : ℕ → Exponentiation
 answered count = record { number = 0; place = noPlace; squarings = count }
 
--- Rule 17.1: of a refused call, the number and the place of its refusal
+-- Rule 17.2: of a refused call, the number and the place of its refusal, and no squarings
 abbrev pub refused : Refusal → Exponentiation
 refused refusal = record { number = numberOf refusal; place = placeOf refusal; squarings = 0 }
 

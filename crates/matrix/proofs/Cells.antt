@@ -40,12 +40,16 @@ module _ (n : ℕ) (f : ℕ → ℕ → Float) where
       ∙ ap (f i) (digits-mod i l)
 
 -- two lists of n × n entries are the same matrix where their entries are the same
-pub same-matrix : (n : ℕ) (a b : List Float) → length a ≡ n * n → length b ≡ n * n → ((i j : ℕ) → i < n → j < n → entry n a i j ≡ entry n b i j) → a ≡ b
-same-matrix zero a b la lb h = ext-getD nan a b (la ∙ sym lb) (λ k l. absurd (none k (subst (λ (m : ℕ). k < m) la l)))
+pub same-matrix :
+    (n : ℕ) (a b : List Float) → length a ≡ n * n → length b ≡ n * n
+    → ((i j : ℕ) → i < n → j < n → entry n a i j ≡ entry n b i j) → a ≡ b
+same-matrix zero a b la lb h =
+    ext-getD nan a b (la ∙ sym lb) (λ k l. absurd (none k (subst (λ (m : ℕ). k < m) la l)))
   where
     none : (k : ℕ) → k < 0 * 0 → ⊥
     none k l = omega arith
-same-matrix (suc m) a b la lb h = ext-getD nan a b (la ∙ sym lb) (λ k l. at k (subst (λ (x : ℕ). k < x) la l))
+same-matrix (suc m) a b la lb h =
+    ext-getD nan a b (la ∙ sym lb) (λ k l. at k (subst (λ (x : ℕ). k < x) la l))
   where
     at : (k : ℕ) → k < suc m * suc m → getD a k nan ≡ getD b k nan
     at k l =
@@ -62,9 +66,13 @@ module _ (n at : ℕ) (work : List Float) where
   cell-at k h = getD-take (n * n) (drop at work) k nan h ∙ getD-drop at work k nan
 
 -- two matrices of workspaces are the same where their cells are
-pub same-at : (n at at' : ℕ) (work work' : List Float) → at + n * n ≤ length work → at' + n * n ≤ length work' → ((k : ℕ) → k < n * n → getD work (at + k) nan ≡ getD work' (at' + k) nan)
+pub same-at :
+    (n at at' : ℕ) (work work' : List Float) → at + n * n ≤ length work → at' + n * n ≤ length work'
+    → ((k : ℕ) → k < n * n → getD work (at + k) nan ≡ getD work' (at' + k) nan)
     → matrixAt n at work ≡ matrixAt n at' work'
 same-at n at at' work work' h h' s =
     let l = length-at n at work h in
     ext-getD nan (matrixAt n at work) (matrixAt n at' work') (l ∙ sym (length-at n at' work' h'))
-    (λ k b. let i : k < n * n = subst (λ (m : ℕ). k < m) l b in cell-at n at work k i ∙ s k i ∙ sym (cell-at n at' work' k i))
+    (λ k b. let i : k < n * n = subst (λ (m : ℕ). k < m) l b in cell-at n at work k i
+    ∙ s k i
+    ∙ sym (cell-at n at' work' k i))

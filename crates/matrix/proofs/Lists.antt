@@ -33,11 +33,14 @@ module _ (l : List Float) (from n : ℕ) where
 module _ (xs ys : List Float) (at k : ℕ) (within : at ≤ length xs) where
   pub put-before : (j : ℕ) → j < at → getD (putMid at k xs ys) j nan ≡ getD xs j nan
   put-before j h =
-      List·getD-append (take at xs) (ys ++ postOf at k xs) nan j (subst (λ (n : ℕ). j < n) (sym (length-take-le at xs within)) h) ∙ getD-take at xs j nan h
+      List·getD-append (take at xs) (ys ++ postOf at k xs) nan j
+      (subst (λ (n : ℕ). j < n) (sym (length-take-le at xs within)) h)
+      ∙ getD-take at xs j nan h
 
   pub put-in : (j : ℕ) → j < length ys → getD (putMid at k xs ys) (at + j) nan ≡ getD ys j nan
   put-in j h =
-      subst (λ (n : ℕ). getD (putMid at k xs ys) (n + j) nan ≡ getD (ys ++ postOf at k xs) j nan) (length-take-le at xs within) (getD-append-add (take at xs) (ys ++ postOf at k xs) j nan)
+      subst (λ (n : ℕ). getD (putMid at k xs ys) (n + j) nan ≡ getD (ys ++ postOf at k xs) j nan)
+      (length-take-le at xs within) (getD-append-add (take at xs) (ys ++ postOf at k xs) j nan)
       ∙ List·getD-append ys (postOf at k xs) nan j h
 
 -- ---- entries times a factor
@@ -46,13 +49,16 @@ pub length-scaled : (x : Float) (l : List Float) → length (scaled x l) ≡ len
 unfolding scaled
 length-scaled x l = length-map l (λ (e : Float). times e x)
 
-pub getD-scaled : (x : Float) (l : List Float) (j : ℕ) → getD (scaled x l) j nan ≡ times (getD l j nan) x
+pub getD-scaled :
+    (x : Float) (l : List Float) (j : ℕ) → getD (scaled x l) j nan ≡ times (getD l j nan) x
 unfolding scaled mul
 getD-scaled x l j = List·getD-map (λ (e : Float). times e x) l j nan
 
 -- ---- every entry finite
 
-finite-cons : (m : List Float) (k : ℕ) → k < length m → allFinite (drop k m) ≡ (finite (getD m k nan) && allFinite (drop (suc k) m))
+finite-cons :
+    (m : List Float) (k : ℕ) → k < length m
+    → allFinite (drop k m) ≡ (finite (getD m k nan) && allFinite (drop (suc k) m))
 unfolding allFinite
 finite-cons m k h = ap allFinite (drop-cons m k nan h)
 
@@ -60,8 +66,12 @@ pub finite-none : (m : List Float) (k : ℕ) → length m ≤ k → allFinite (d
 unfolding allFinite
 finite-none m k h = ap allFinite (drop-of-length-le m h)
 
-pub finite-not : (m : List Float) (k : ℕ) → k < length m → finite (getD m k nan) ≡ false → allFinite (drop k m) ≡ false
+pub finite-not :
+    (m : List Float) (k : ℕ) → k < length m → finite (getD m k nan) ≡ false
+    → allFinite (drop k m) ≡ false
 finite-not m k h e = rw (finite-cons m k h, e)
 
-pub finite-more : (m : List Float) (k : ℕ) → k < length m → finite (getD m k nan) ≡ true → allFinite (drop k m) ≡ allFinite (drop (k + 1) m)
+pub finite-more :
+    (m : List Float) (k : ℕ) → k < length m → finite (getD m k nan) ≡ true
+    → allFinite (drop k m) ≡ allFinite (drop (k + 1) m)
 finite-more m k h e = rw (add-one, finite-cons m k h, e)

@@ -29,12 +29,17 @@ module _ (n : ℕ) (a b : List Float) where
   entry-product = entry-matrix n (λ i j. termSum n a b i j n)
 
 -- the terms turn on a row of the left matrix and a column of the right one, and on nothing else
-pub terms-same : (n : ℕ) (a b a' b' : List Float) (i i' j m : ℕ) → ((k : ℕ) → k < m → entry n a i k ≡ entry n a' i' k) → ((k : ℕ) → k < m → entry n b k j ≡ entry n b' k j)
+pub terms-same :
+    (n : ℕ) (a b a' b' : List Float) (i i' j m : ℕ)
+    → ((k : ℕ) → k < m → entry n a i k ≡ entry n a' i' k)
+    → ((k : ℕ) → k < m → entry n b k j ≡ entry n b' k j)
     → termSum n a b i j m ≡ termSum n a' b' i' j m
 unfolding termSum
 terms-same n a b a' b' i i' j zero l r = refl
 terms-same n a b a' b' i i' j (suc m) l r =
-    let before = terms-same n a b a' b' i i' j m (λ k h. l k (omega arith)) (λ k h. r k (omega arith)) in
+    let before =
+    terms-same n a b a' b' i i' j m (λ k h. l k (omega arith)) (λ k h. r k (omega arith))
+    in
     rw (before, l m (omega arith), r m (omega arith))
 
 -- ---- a row
@@ -48,7 +53,10 @@ module _ (n : ℕ) (a b : List Float) (i j k : ℕ) where
   unfolding termSum withTerm
   term-skip e = rw (add-one, e)
 
-  term-add : eq (entry n a i k) plusZero ≡ false → plus (termSum n a b i j k) (times (entry n a i k) (entry n b k j)) ≡ termSum n a b i j (k + 1)
+  term-add :
+      eq (entry n a i k) plusZero ≡ false
+      → plus (termSum n a b i j k) (times (entry n a i k) (entry n b k j))
+      ≡ termSum n a b i j (k + 1)
   unfolding termSum withTerm
   term-add e = rw (add-one, e)
 
@@ -72,7 +80,10 @@ module _ (n : ℕ) (left right : List Float) (from width : ℕ) where
   unfolding ne
   sums-skip sums now k p e q =
       subst (Sums (k + 1)) (sym q)
-      (record { len = p .len; sum = λ l h. p .sum l h ∙ term-skip n left right 0 (from + l) k skip })
+      (record {
+        len = p .len;
+        sum = λ l h. p .sum l h ∙ term-skip n left right 0 (from + l) k skip;
+      })
     where
       skip : eq (entry n left 0 k) plusZero ≡ true
       skip = rw first-row (not-false _ e)

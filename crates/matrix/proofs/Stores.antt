@@ -18,13 +18,22 @@ pub record Stored (at : ℕ) (v : ℕ → Float) (before now : List Float) (next
   pub below : (j : ℕ) → j < at → getD now j nan ≡ getD before j nan
   pub above : (j : ℕ) → next ≤ j → getD now j nan ≡ getD before j nan
 
-pub stored-none : (at : ℕ) (v : ℕ → Float) (l : List Float) (next : ℕ) → next ≤ at → Stored at v l l next
-stored-none at v l next h = record { len = refl; done = λ j a b. absurd (none j a b); below = λ j h. refl; above = λ j h. refl }
+pub stored-none :
+    (at : ℕ) (v : ℕ → Float) (l : List Float) (next : ℕ) → next ≤ at → Stored at v l l next
+stored-none at v l next h =
+    record {
+      len = refl;
+      done = λ j a b. absurd (none j a b);
+      below = λ j h. refl;
+      above = λ j h. refl;
+    }
   where
     none : (j : ℕ) → at ≤ j → j < next → ⊥
     none j a b = omega arith
 
-pub stored-more : (at : ℕ) (v : ℕ → Float) (before now : List Float) (k : ℕ) (x : Float) (next : ℕ) → Stored at v before now k → at ≤ k → k < length before → next ≡ k + 1 → x ≡ v k
+pub stored-more :
+    (at : ℕ) (v : ℕ → Float) (before now : List Float) (k : ℕ) (x : Float) (next : ℕ)
+    → Stored at v before now k → at ≤ k → k < length before → next ≡ k + 1 → x ≡ v k
     → Stored at v before (set now k x) next
 stored-more at v before now k x next p a h e s = record {
   len = length-set now k x ∙ p .len;
@@ -54,10 +63,13 @@ stored-more at v before now k x next p a h e s = record {
         getD-set-other now k j x nan (λ (r : j ≡ k). omega arith) ∙ p .done j b q
 
 -- where the stores went over the whole list, it is the list whose elements are v's
-pub stored-all : (v : ℕ → Float) (before now l : List Float) (next : ℕ) → Stored 0 v before now next → length before ≤ next → length l ≡ length before
+pub stored-all :
+    (v : ℕ → Float) (before now l : List Float) (next : ℕ) → Stored 0 v before now next
+    → length before ≤ next → length l ≡ length before
     → ((j : ℕ) → j < length l → v j ≡ getD l j nan) → now ≡ l
 stored-all v before now l next p h e s =
-    ext-getD nan now l (p .len ∙ sym e) (λ j b. p .done j (omega arith) (within j b) ∙ s j (fits j b))
+    ext-getD nan now l (p .len ∙ sym e)
+    (λ j b. p .done j (omega arith) (within j b) ∙ s j (fits j b))
   where
     within : (j : ℕ) → j < length now → j < next
     within j b = omega (arith, p .len)
@@ -69,14 +81,22 @@ stored-all v before now l next p h e s =
 
 module _ (size from into : ℕ) (before now : List Float) where
   -- what is read was not stored to yet
-  pub copy-source : (k : ℕ) → Stored into (λ j. getD before (from + (j - into)) nan) before now (into + k) → k < size → (into + size ≤ from) ⊎ (from + size ≤ into)
+  pub copy-source :
+      (k : ℕ) → Stored into (λ j. getD before (from + (j - into)) nan) before now (into + k)
+      → k < size → (into + size ≤ from) ⊎ (from + size ≤ into)
       → getD now (from + k) nan ≡ getD before (from + (into + k - into)) nan
-  copy-source k p h (inl a) = p .above (from + k) (omega arith) ∙ ap (λ (j : ℕ). getD before (from + j) nan) (omega arith)
-  copy-source k p h (inr a) = p .below (from + k) (omega arith) ∙ ap (λ (j : ℕ). getD before (from + j) nan) (omega arith)
+  copy-source k p h (inl a) =
+      p .above (from + k) (omega arith) ∙ ap (λ (j : ℕ). getD before (from + j) nan) (omega arith)
+  copy-source k p h (inr a) =
+      p .below (from + k) (omega arith) ∙ ap (λ (j : ℕ). getD before (from + j) nan) (omega arith)
 
-  pub copied : (k : ℕ) → Stored into (λ j. getD before (from + (j - into)) nan) before now (into + k) → k ≤ size → size ≤ k → Moved size from into before now
+  pub copied :
+      (k : ℕ) → Stored into (λ j. getD before (from + (j - into)) nan) before now (into + k)
+      → k ≤ size → size ≤ k → Moved size from into before now
   copied k p g h = record {
-    moved = λ j l. p .done (into + j) (omega arith) (under j l) ∙ ap (λ (i : ℕ). getD before (from + i) nan) (back j);
+    moved =
+        λ j l. p .done (into + j) (omega arith) (under j l)
+        ∙ ap (λ (i : ℕ). getD before (from + i) nan) (back j);
     below = p .below;
     above = λ j l. p .above j (past j l);
   }

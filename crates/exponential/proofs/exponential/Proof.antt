@@ -33,22 +33,31 @@ start c = c .before .before .before
 norm-finite : (c : tie.Else1) → finite (normed c .norm-1 .result) ≡ true
 norm-finite c = sym (c .before .is-finite .ensures) ∙ not-false _ (c .if1 .left)
 
-twice-finite : (c : tie.Else2) → finite (plus (normed (c .before .before) .norm-1 .result) (normed (c .before .before) .norm-1 .result)) ≡ true
+twice-finite :
+    (c : tie.Else2) →
+    let norm = normed (c .before .before) .norm-1 .result in
+    finite (plus norm norm) ≡ true
 twice-finite c = sym (c .before .is-finite2 .ensures) ∙ not-false _ (c .if2 .left)
 
 -- the first matrix is the exponential
 result-is : (c : tie.After-exponential-by) →
     let s = start (normed (first c)) in
-    matrixAt (s .args .dim) 0 (c .exponential-by .last .1 .1 .0) ≡ exponential (s .args .dim) (matrixAt (s .args .dim) 0 (s .args .work .now))
-result-is c = c .exponential-by .ensures ∙ exponential-is _ _ _ _ (normed (first c) .norm-1 .ensures) (c .before .before .of-norm .ensures .0)
+    matrixAt (s .args .dim) 0 (c .exponential-by .last .1 .1 .0)
+    ≡ exponential (s .args .dim) (matrixAt (s .args .dim) 0 (s .args .work .now))
+result-is c =
+    c .exponential-by .ensures
+    ∙ exponential-is _ _ _ _ (normed (first c) .norm-1 .ensures)
+    (c .before .before .of-norm .ensures .0)
 
 told : (c : tie.After-exponential-by) (b : Bool) →
     let s = start (normed (first c)) in
     b ≡ allFinite (matrixAt (s .args .dim) 0 (c .exponential-by .last .1 .1 .0))
-    → cond b (Done (c .before .before .of-norm .result .squarings)) NotFinite ≡ exponentiated (s .args .dim) (matrixAt (s .args .dim) 0 (s .args .work .now))
+    → cond b (Done (c .before .before .of-norm .result .squarings)) NotFinite
+    ≡ exponentiated (s .args .dim) (matrixAt (s .args .dim) 0 (s .args .work .now))
 told c b h =
     ap (λ (s : ℕ). cond b (Done s) NotFinite) (c .before .before .of-norm .ensures .0)
-    ∙ entries-told _ _ _ (normed (first c) .norm-1 .ensures) (norm-finite (first c)) _ b (twice-finite (second c)) (result-is c) h
+    ∙ entries-told _ _ _ (normed (first c) .norm-1 .ensures) (norm-finite (first c)) _ b
+    (twice-finite (second c)) (result-is c) h
 
 mul-size : tie.Need-mul-size
 mul-size c = omega (arith, small (c .before .pre .0))
@@ -69,7 +78,11 @@ same-length : tie.Need-same-length
 same-length c = search needs
 
 returns : tie.Need-returns
-returns c = (norm-not _ _ _ (c .before .before .norm-1 .ensures) (sym (c .before .is-finite .ensures) ∙ not-true _ (c .if1 .taken)), tt)
+returns c = (
+  norm-not _ _ _ (c .before .before .norm-1 .ensures)
+      (sym (c .before .is-finite .ensures) ∙ not-true _ (c .if1 .taken)),
+  tt,
+)
 
 is-finite-requires-2 : tie.Need-is-finite-requires-2
 is-finite-requires-2 c κs = search needs
@@ -78,7 +91,11 @@ same-length-2 : tie.Need-same-length-2
 same-length-2 c = search needs
 
 returns-2 : tie.Need-returns-2
-returns-2 c = (twice-not _ _ _ (normed (c .before .before) .norm-1 .ensures) (norm-finite (c .before .before)) (sym (c .before .is-finite2 .ensures) ∙ not-true _ (c .if2 .taken)), tt)
+returns-2 c = (
+  twice-not _ _ _ (normed (c .before .before) .norm-1 .ensures) (norm-finite (c .before .before))
+      (sym (c .before .is-finite2 .ensures) ∙ not-true _ (c .if2 .taken)),
+  tt,
+)
 
 of-norm-requires : tie.Need-of-norm-requires
 of-norm-requires c κs = twice-finite c
@@ -95,7 +112,8 @@ slice-reshare-prefix-is-finite c = search needs
 slice-aggregate-is-finite : tie.Need-slice-aggregate-is-finite
 slice-aggregate-is-finite c =
     let e = c .before .before .before in
-    long-front _ (e .exponential-by .last .1 .1 .0) (e .exponential-by .kept .1 .1 .0 ∙ start (normed (first e)) .pre .1)
+    long-front _ (e .exponential-by .last .1 .1 .0)
+    (e .exponential-by .kept .1 .1 .0 ∙ start (normed (first e)) .pre .1)
 
 is-finite-requires-3 : tie.Need-is-finite-requires-3
 is-finite-requires-3 c κs = search needs
@@ -112,7 +130,11 @@ same-length-4 : tie.Need-same-length-4
 same-length-4 c = search needs
 
 returns-4 : tie.Need-returns-4
-returns-4 c = (told (c .before .before .before .before .before) false (sym (c .if3 .left) ∙ c .before .is-finite3 .ensures), tt)
+returns-4 c = (
+  told (c .before .before .before .before .before) false
+      (sym (c .if3 .left) ∙ c .before .is-finite3 .ensures),
+  tt,
+)
 
 pub exponential-spec : {M : Type 1} → statement M
 exponential-spec =

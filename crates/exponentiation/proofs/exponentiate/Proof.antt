@@ -74,7 +74,8 @@ module _ (c : tie.After-exponential) where
   long-result :
       size (copied c) ≡ length (take (size (copied c)) (c .exponential .last .1 .0))
   long-result =
-      long-front _ (c .exponential .last .1 .0) (c .exponential .kept .1 .0 ∙ long-copied (copied c))
+      long-front _ (c .exponential .last .1 .0)
+      (c .exponential .kept .1 .0 ∙ long-copied (copied c))
 
   outcome-is : c .exponential .result ≡ exponentiated (of-call .dimension) (of-call .input)
   outcome-is = c .exponential .ensures .0 ∙ ap (exponentiated _) (input-kept (copied c))

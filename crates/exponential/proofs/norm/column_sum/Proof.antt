@@ -23,8 +23,11 @@ bounds : (c : tie.In-loop Inv-loop μ-loop) →
     let i = c .before .loop .i in
     (i * n + start .args .column < n * n) × (start .args .column * n + i < n * n) × (n * n ≤ 4489)
 bounds c =
-    let start = c .before .before .before in
-    (inside (c .loop-test .taken) (start .pre .1), inside (start .pre .1) (c .loop-test .taken), small (start .pre .0))
+    let start = c .before .before .before in (
+      inside (c .loop-test .taken) (start .pre .1),
+      inside (start .pre .1) (c .loop-test .taken),
+      small (start .pre .0),
+    )
 
 loop-holds : tie.Need-loop-holds Inv-loop μ-loop
 unfolding ofBits
@@ -52,7 +55,8 @@ loop-less : tie.Need-loop-less Inv-loop μ-loop
 loop-less c = omega arith
 
 loop-again : tie.Need-loop-again Inv-loop μ-loop
-loop-again c = (omega arith, sum-more _ _ _ _ _ _ (c .before .before .before .loop .inv .1) (c .abs .ensures))
+loop-again c =
+    (omega arith, sum-more _ _ _ _ _ _ (c .before .before .before .loop .inv .1) (c .abs .ensures))
 
 returns : tie.Need-returns Inv-loop μ-loop
 returns c = sum-all _ _ _ _ _ (c .before .loop .inv .1) (omega arith) (omega arith)

@@ -31,7 +31,11 @@ loop-less : tie.Need-loop-less Inv-loop μ-loop
 loop-less c = omega arith
 
 loop-again : tie.Need-loop-again Inv-loop μ-loop
-loop-again c = (omega arith, largest-more _ _ _ _ _ _ (c .before .before .before .loop .inv .1) (c .before .column-sum .ensures) (c .max .ensures))
+loop-again c = (
+  omega arith,
+  largest-more _ _ _ _ _ _ (c .before .before .before .loop .inv .1)
+      (c .before .column-sum .ensures) (c .max .ensures),
+)
 
 returns : tie.Need-returns Inv-loop μ-loop
 returns c = largest-all _ _ _ _ (c .before .loop .inv .1) (omega arith) (omega arith)

@@ -18,8 +18,13 @@ same-length c = search needs
 
 returns : tie.Need-returns
 returns c =
-    chained _ _ _ _ (c .before .before .before .before .before .before .before .before .before .before .start .last .1 .1 .0) (c .before .before .before .before .before .before .horner .last .1 .0) (c .before .before .square .last .1 .1 .0) (c .before .before .before .before .before .before .before .before .before .before .before .before .before .pre .1)
-    (c .before .before .before .before .before .before .before .before .before .before .start .ensures) (c .before .before .before .before .before .before .horner .ensures) (c .before .before .square .ensures)
+    let squared = c .before .before in
+    let summed = squared .before .before .before .before in
+    let begun = summed .before .before .before .before in
+    let entry = begun .before .before .before in
+    chained _ _ _ _ (begun .start .last .1 .1 .0) (summed .horner .last .1 .0)
+    (squared .square .last .1 .1 .0) (entry .pre .1) (begun .start .ensures)
+    (summed .horner .ensures) (squared .square .ensures)
 
 pub exponential-by-spec : {M : Type 1} → statement M
 exponential-by-spec =

@@ -8,7 +8,8 @@ use Rattle.exponential.proofs.taylor.horner.Statement.{statement}
 use Rattle.exponential.proofs.taylor.horner.Tie as tie
 
 abbrev Inv-loop : tie.InvT-loop
-Inv-loop dim work₀ degree₀ work degree = (degree ≤ 18) × (length work ≡ length work₀) × Degree dim work₀ work degree
+Inv-loop dim work₀ degree₀ work degree =
+    (degree ≤ 18) × (length work ≡ length work₀) × Degree dim work₀ work degree
 
 abbrev μ-loop : tie.MeasureT-loop
 μ-loop dim work₀ degree₀ work degree = degree
@@ -17,7 +18,11 @@ loop-holds : tie.Need-loop-holds Inv-loop μ-loop
 loop-holds c = (omega arith, refl, degree-none _ _ (c .before .pre .1))
 
 step-requires : tie.Need-step-requires Inv-loop μ-loop
-step-requires c κs = (c .before .before .before .before .pre .0 .0, c .before .before .loop .inv .1 ∙ c .before .before .before .before .pre .0 .1)
+step-requires c κs = (
+  c .before .before .before .before .pre .0 .0,
+  c .before .before .loop .inv .1
+      ∙ c .before .before .before .before .pre .0 .1,
+)
 
 sub-degree : tie.Need-sub-degree Inv-loop μ-loop
 sub-degree c = omega (arith, c .before .before .before .before .loop-test .taken)
@@ -29,7 +34,9 @@ loop-again : tie.Need-loop-again Inv-loop μ-loop
 loop-again c = (
   omega (arith, c .before .before .before .before .before .loop .inv .0),
   c .before .before .step .kept .1 .1 .0 ∙ c .before .before .before .before .before .loop .inv .1,
-  degree-more _ _ _ _ _ (c .before .before .before .before .loop-test .taken) (c .before .before .before .before .before .loop .inv .0) (c .before .before .before .before .before .loop .inv .2) (c .before .before .step .ensures),
+  degree-more _ _ _ _ _ (c .before .before .before .before .loop-test .taken)
+      (c .before .before .before .before .before .loop .inv .0)
+      (c .before .before .before .before .before .loop .inv .2) (c .before .before .step .ensures),
 )
 
 same-length : tie.Need-same-length Inv-loop μ-loop

@@ -26,7 +26,9 @@ moved c = c .before .before .before .before
 long-scaled : (c : tie.After-scale) →
     let n = start c .args .dim in
     length (c .scale .last .1 .0 ++ drop (n * n) (start c .args .work .now)) ≡ 5 * (n * n)
-long-scaled c = long-put _ (c .scale .last .1 .0) (start c .args .work .now) (start c .pre .1) (c .scale .kept .1 .0)
+long-scaled c =
+    long-put _ (c .scale .last .1 .0) (start c .args .work .now) (start c .pre .1)
+    (c .scale .kept .1 .0)
 
 long-moved : (c : tie.After-move-matrix) →
     let n = start (scaled c) .args .dim in
@@ -35,11 +37,14 @@ long-moved c = c .move-matrix .kept .1 .1 .1 .0 ∙ long-scaled (scaled c)
 
 long-cleared : (c : tie.After-clear) →
     let n = start (scaled (moved c)) .args .dim in
-    n * n ≡ length (take (n * n) (c .clear .last .0 ++ drop (n * n) (moved c .move-matrix .last .1 .1 .1 .0)))
+    n * n
+    ≡ length
+    (take (n * n) (c .clear .last .0 ++ drop (n * n) (moved c .move-matrix .last .1 .1 .1 .0)))
 long-cleared c =
     let n = start (scaled (moved c)) .args .dim in
     let m = moved c .move-matrix .last .1 .1 .1 .0 in
-    long-front n (c .clear .last .0 ++ drop (n * n) m) (long-put n (c .clear .last .0) m (long-moved (moved c)) (c .clear .kept .0))
+    long-front n (c .clear .last .0 ++ drop (n * n) m)
+    (long-put n (c .clear .last .0) m (long-moved (moved c)) (c .clear .kept .0))
 
 mul-size : tie.Need-mul-size
 mul-size c = omega (arith, small (c .before .pre .0))
@@ -62,7 +67,9 @@ slice-relend-prefix-clear : tie.Need-slice-relend-prefix-clear
 slice-relend-prefix-clear c = search needs
 
 slice-aggregate-clear : tie.Need-slice-aggregate-clear
-slice-aggregate-clear c = long-front _ (c .before .before .before .move-matrix .last .1 .1 .1 .0) (long-moved (c .before .before .before))
+slice-aggregate-clear c =
+    long-front _ (c .before .before .before .move-matrix .last .1 .1 .1 .0)
+    (long-moved (c .before .before .before))
 
 clear-requires : tie.Need-clear-requires
 clear-requires c κs = search needs
@@ -86,8 +93,10 @@ returns c =
     let z = c .before .before .before .before .before .before in
     let m = moved z in
     let s = scaled m in
-    started _ _ _ (s .scale .last .1 .0) (m .move-matrix .last .1 .1 .1 .0) (z .clear .last .0) (c .before .before .add-diagonal .last .1 .0) (start s .pre .1) (long-moved m)
-    (s .scale .ensures) (m .move-matrix .ensures) (z .clear .ensures) (c .before .before .add-diagonal .ensures)
+    started _ _ _ (s .scale .last .1 .0) (m .move-matrix .last .1 .1 .1 .0) (z .clear .last .0)
+    (c .before .before .add-diagonal .last .1 .0) (start s .pre .1) (long-moved m)
+    (s .scale .ensures) (m .move-matrix .ensures) (z .clear .ensures)
+    (c .before .before .add-diagonal .ensures)
 
 pub start-spec : {M : Type 1} → statement M
 start-spec =

@@ -29,12 +29,14 @@ long-multiplied c = c .multiply .kept .1 .1 .0 ∙ start c .pre .1
 long-scaled : (c : tie.After-scale) →
     let m = multiplied c in
     let n = start m .args .dim in
-    n * n ≡ length (take (n * n) (c .scale .last .1 .0 ++ drop (n * n) (m .multiply .last .1 .1 .0)))
+    n * n
+    ≡ length (take (n * n) (c .scale .last .1 .0 ++ drop (n * n) (m .multiply .last .1 .1 .0)))
 long-scaled c =
     let m = multiplied c in
     let n = start m .args .dim in
     let w = m .multiply .last .1 .1 .0 in
-    long-front n (c .scale .last .1 .0 ++ drop (n * n) w) (long-put n (c .scale .last .1 .0) w (long-multiplied m) (c .scale .kept .1 .0))
+    long-front n (c .scale .last .1 .0 ++ drop (n * n) w)
+    (long-put n (c .scale .last .1 .0) w (long-multiplied m) (c .scale .kept .1 .0))
 
 mul-size : tie.Need-mul-size
 mul-size c = omega (arith, small (c .before .pre .0))
@@ -49,7 +51,9 @@ slice-relend-prefix-scale : tie.Need-slice-relend-prefix-scale
 slice-relend-prefix-scale c = search needs
 
 slice-aggregate-scale : tie.Need-slice-aggregate-scale
-slice-aggregate-scale c = long-front _ (c .before .before .before .before .multiply .last .1 .1 .0) (long-multiplied (c .before .before .before .before))
+slice-aggregate-scale c =
+    long-front _ (c .before .before .before .before .multiply .last .1 .1 .0)
+    (long-multiplied (c .before .before .before .before))
 
 scale-requires : tie.Need-scale-requires
 scale-requires c κs = search needs
@@ -73,7 +77,8 @@ unfolding hornerStep ofBits
 returns c =
     let s = c .before .before .before .before .before .before in
     let m = multiplied s in
-    scaled-and-bumped _ _ _ _ (m .multiply .last .1 .1 .0) (s .scale .last .1 .0) (c .before .before .add-diagonal .last .1 .0) (long-multiplied m)
+    scaled-and-bumped _ _ _ _ (m .multiply .last .1 .1 .0) (s .scale .last .1 .0)
+    (c .before .before .add-diagonal .last .1 .0) (long-multiplied m)
     (m .multiply .ensures) (s .scale .ensures) (c .before .before .add-diagonal .ensures)
 
 pub step-spec : {M : Type 1} → statement M

@@ -1,5 +1,5 @@
--- `add_diagonal` meets its contract: after i turns the first i entries of the diagonal have their 1.
--- Assumes nothing.
+-- `add_diagonal` meets its contract: after i turns the first i entries of the diagonal have their
+-- 1. Assumes nothing.
 use Prim.Native.Nat.{_≤_, _<_, _-_, _+_, _*_}
 use native.Mathlib.Omega.{arith}
 use lib.ListN.{length}
@@ -18,11 +18,13 @@ abbrev μ-loop : tie.MeasureT-loop
 -- the cell lies within the matrix
 bounds : (c : tie.In-loop Inv-loop μ-loop) →
     let i = c .before .loop .i in
-    (i * c .before .before .args .dim + i < length (c .before .loop .m)) × (length (c .before .loop .m) ≤ 4489)
+    (i * c .before .before .args .dim + i < length (c .before .loop .m)) ×
+    (length (c .before .loop .m) ≤ 4489)
 bounds c =
     let start = c .before .before in
     let at = c .before .loop in (
-      omega (arith, inside (c .loop-test .taken) (c .loop-test .taken), at .inv .1 .len, start .pre),
+      omega
+          (arith, inside (c .loop-test .taken) (c .loop-test .taken), at .inv .1 .len, start .pre),
       omega (arith, small (start .pre .0), at .inv .1 .len, start .pre),
     )
 
@@ -55,7 +57,11 @@ loop-less c = omega arith
 
 loop-again : tie.Need-loop-again Inv-loop μ-loop
 unfolding ofBits
-loop-again c = (omega arith, bumped-more _ _ _ _ (c .before .before .loop .inv .1) (c .before .loop-test .taken) (c .before .before .before .pre .1))
+loop-again c = (
+  omega arith,
+  bumped-more _ _ _ _ (c .before .before .loop .inv .1)
+      (c .before .loop-test .taken) (c .before .before .before .pre .1),
+)
 
 same-length : tie.Need-same-length Inv-loop μ-loop
 same-length c = c .before .loop .inv .1 .len

@@ -32,13 +32,22 @@ loop-less c = omega arith
 
 loop-again : tie.Need-loop-again Inv-loop μ-loop
 unfolding ofBits
-loop-again c = (omega arith, stored-more _ _ _ _ _ _ _ (c .before .loop .inv .1) (omega arith) (omega arith) refl refl)
+loop-again c = (
+  omega arith,
+  stored-more _ _ _ _ _ _ _ (c .before .loop .inv .1) (omega arith) (omega arith)
+      refl refl,
+)
 
 same-length : tie.Need-same-length Inv-loop μ-loop
 same-length c = c .before .loop .inv .1 .len
 
 returns : tie.Need-returns Inv-loop μ-loop
-returns c = stored-all _ _ _ _ _ (c .before .loop .inv .1) (omega arith) (length-replicate _ _) (λ j h. sym (getD-replicate (length (c .before .before .args .m .now)) j plusZero nan (omega (arith, length-replicate (length (c .before .before .args .m .now)) plusZero))))
+returns c =
+    stored-all _ _ _ _ _ (c .before .loop .inv .1) (omega arith) (length-replicate _ _)
+    (λ j h.
+    sym
+    (getD-replicate (length (c .before .before .args .m .now)) j plusZero nan
+    (omega (arith, length-replicate (length (c .before .before .args .m .now)) plusZero))))
 
 pub clear-spec : {M : Type 1} → statement M
 clear-spec =

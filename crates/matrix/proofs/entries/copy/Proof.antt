@@ -37,7 +37,11 @@ loop-less : tie.Need-loop-less Inv-loop μ-loop
 loop-less c = search needs
 
 loop-again : tie.Need-loop-again Inv-loop μ-loop
-loop-again c = (omega arith, stored-more _ _ _ _ _ _ _ (c .before .before .loop .inv .1) (omega arith) (omega arith) refl refl)
+loop-again c = (
+  omega arith,
+  stored-more _ _ _ _ _ _ _ (c .before .before .loop .inv .1) (omega arith)
+      (omega arith) refl refl,
+)
 
 same-length : tie.Need-same-length Inv-loop μ-loop
 same-length c = c .before .loop .inv .1 .len

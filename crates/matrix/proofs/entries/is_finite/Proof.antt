@@ -29,7 +29,12 @@ is-finite-requires : tie.Need-is-finite-requires Inv-loop μ-loop
 is-finite-requires c κs = search needs
 
 returns : tie.Need-returns Inv-loop μ-loop
-returns c = sym (c .before .before .before .before .loop .inv .1 ∙ finite-not (c .before .before .before .before .before .before .args .m .now) (c .before .before .before .before .loop .k) (omega arith) (sym (c .before .is-finite .ensures) ∙ not-true _ (c .if1 .taken)))
+returns c =
+    sym
+    (c .before .before .before .before .loop .inv .1
+    ∙ finite-not (c .before .before .before .before .before .before .args .m .now)
+    (c .before .before .before .before .loop .k) (omega arith)
+    (sym (c .before .is-finite .ensures) ∙ not-true _ (c .if1 .taken)))
 
 add-k : tie.Need-add-k Inv-loop μ-loop
 add-k c = omega arith
@@ -38,10 +43,19 @@ loop-less : tie.Need-loop-less Inv-loop μ-loop
 loop-less c = omega arith
 
 loop-again : tie.Need-loop-again Inv-loop μ-loop
-loop-again c = (omega arith, c .before .before .before .before .loop .inv .1 ∙ finite-more (c .before .before .before .before .before .before .args .m .now) (c .before .before .before .before .loop .k) (omega arith) (sym (c .before .is-finite .ensures) ∙ not-false _ (c .if1 .left)))
+loop-again c = (
+  omega arith,
+  c .before .before .before .before .loop .inv .1
+      ∙ finite-more (c .before .before .before .before .before .before .args .m .now)
+      (c .before .before .before .before .loop .k) (omega arith)
+      (sym (c .before .is-finite .ensures) ∙ not-false _ (c .if1 .left)),
+)
 
 returns-2 : tie.Need-returns-2 Inv-loop μ-loop
-returns-2 c = sym (c .before .loop .inv .1 ∙ finite-none (c .before .before .before .args .m .now) (c .before .loop .k) (omega arith))
+returns-2 c =
+    sym
+    (c .before .loop .inv .1
+    ∙ finite-none (c .before .before .before .args .m .now) (c .before .loop .k) (omega arith))
 
 pub is-finite-spec : {M : Type 1} → statement M
 is-finite-spec =

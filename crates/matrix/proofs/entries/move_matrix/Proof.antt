@@ -8,7 +8,8 @@ use Rattle.matrix.proofs.entries.move_matrix.Statement.{statement}
 use Rattle.matrix.proofs.entries.move_matrix.Tie as tie
 
 abbrev Inv-loop : tie.InvT-loop
-Inv-loop size from into work₀ k₀ work k = (k ≤ size) × Stored into (λ j. getD work₀ (from + (j - into)) nan) work₀ work (into + k)
+Inv-loop size from into work₀ k₀ work k =
+    (k ≤ size) × Stored into (λ j. getD work₀ (from + (j - into)) nan) work₀ work (into + k)
 
 abbrev μ-loop : tie.MeasureT-loop
 μ-loop size from into work₀ k₀ work k = size - k
@@ -41,7 +42,13 @@ loop-less : tie.Need-loop-less Inv-loop μ-loop
 loop-less c = omega arith
 
 loop-again : tie.Need-loop-again Inv-loop μ-loop
-loop-again c = (omega arith, stored-more _ _ _ _ _ _ _ (c .before .before .loop .inv .1) (omega arith) (omega arith) (omega arith) (copy-source _ _ _ _ _ _ (c .before .before .loop .inv .1) (omega arith) (c .before .before .before .pre .1)))
+loop-again c = (
+  omega arith,
+  stored-more _ _ _ _ _ _ _ (c .before .before .loop .inv .1) (omega arith)
+      (omega arith) (omega arith)
+      (copy-source _ _ _ _ _ _ (c .before .before .loop .inv .1) (omega arith)
+      (c .before .before .before .pre .1)),
+)
 
 same-length : tie.Need-same-length Inv-loop μ-loop
 same-length c = c .before .loop .inv .1 .len

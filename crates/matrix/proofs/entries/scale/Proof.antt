@@ -39,13 +39,21 @@ loop-less : tie.Need-loop-less Inv-loop μ-loop
 loop-less c = omega arith
 
 loop-again : tie.Need-loop-again Inv-loop μ-loop
-loop-again c = (omega arith, stored-more _ _ _ _ _ _ _ (c .before .before .loop .inv .1) (omega arith) (omega arith) refl (ap (λ (x : Float). times x (c .before .before .before .args .factor)) (c .before .before .loop .inv .1 .above _ (omega arith))))
+loop-again c = (
+  omega arith,
+  stored-more _ _ _ _ _ _ _ (c .before .before .loop .inv .1) (omega arith)
+      (omega arith) refl
+      (ap (λ (x : Float). times x (c .before .before .before .args .factor))
+      (c .before .before .loop .inv .1 .above _ (omega arith))),
+)
 
 same-length : tie.Need-same-length Inv-loop μ-loop
 same-length c = c .before .loop .inv .1 .len
 
 returns : tie.Need-returns Inv-loop μ-loop
-returns c = stored-all _ _ _ _ _ (c .before .loop .inv .1) (omega arith) (length-scaled _ _) (λ j h. sym (getD-scaled _ _ _))
+returns c =
+    stored-all _ _ _ _ _ (c .before .loop .inv .1) (omega arith) (length-scaled _ _)
+    (λ j h. sym (getD-scaled _ _ _))
 
 pub scale-spec : {M : Type 1} → statement M
 scale-spec =

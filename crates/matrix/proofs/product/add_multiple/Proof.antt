@@ -47,17 +47,21 @@ loop-less c = omega arith
 loop-again : tie.Need-loop-again Inv-loop μ-loop
 loop-again c =
     let at = c .before .before .before in
-    let start = at .before in (
+    let start = at .before in
+    let right = getD (start .args .right .now) (at .loop .l) nan in (
       omega arith,
       stored-more _ _ _ _ _ _ _ (at .loop .inv .1) (omega arith) (omega arith) refl
-          (ap (λ (x : Float). plus x (times (start .args .left) (getD (start .args .right .now) (at .loop .l) nan))) (at .loop .inv .1 .above _ (omega arith))),
+          (ap (λ (x : Float). plus x (times (start .args .left) right))
+          (at .loop .inv .1 .above _ (omega arith))),
     )
 
 same-length : tie.Need-same-length Inv-loop μ-loop
 same-length c = c .before .loop .inv .1 .len
 
 returns : tie.Need-returns Inv-loop μ-loop
-returns c = record { len = c .before .loop .inv .1 .len; sums = λ l h. c .before .loop .inv .1 .done l (omega arith) (omega arith) }
+returns c =
+    let stored = c .before .loop .inv .1 in
+    record { len = stored .len; sums = λ l h. stored .done l (omega arith) (omega arith) }
 
 pub add-multiple-spec : {M : Type 1} → statement M
 add-multiple-spec =

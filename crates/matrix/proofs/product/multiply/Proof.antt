@@ -19,7 +19,9 @@ mul-move-matrix c = omega (arith, small (c .before .before .before .before .befo
 
 move-matrix-requires : tie.Need-move-matrix-requires
 move-matrix-requires c κs =
-    let l = c .before .before .before .multiply-into .kept .1 .1 .0 ∙ c .before .before .before .before .before .before .pre .2 in
+    let l =
+    c .before .before .before .multiply-into .kept .1 .1 .0
+    ∙ c .before .before .before .before .before .before .pre .2 in
     ((omega (arith, l), omega (arith, l)), inl (omega arith))
 
 same-length : tie.Need-same-length
@@ -27,8 +29,14 @@ same-length c = search needs
 
 returns : tie.Need-returns
 returns c =
-    moved-back _ (c .before .before .before .before .before .before .before .before .before .args .left) _ (c .before .before .before .before .before .before .multiply-into .last .1 .1 .0) _ (c .before .before .before .before .before .before .before .before .before .pre .2) (c .before .before .before .before .before .before .multiply-into .kept .1 .1 .0) (c .before .before .move-matrix .kept .1 .1 .1 .0)
-    (c .before .before .before .before .before .before .multiply-into .ensures) (c .before .before .move-matrix .ensures)
+    moved-back _
+    (c .before .before .before .before .before .before .before .before .before .args .left) _
+    (c .before .before .before .before .before .before .multiply-into .last .1 .1 .0) _
+    (c .before .before .before .before .before .before .before .before .before .pre .2)
+    (c .before .before .before .before .before .before .multiply-into .kept .1 .1 .0)
+    (c .before .before .move-matrix .kept .1 .1 .1 .0)
+    (c .before .before .before .before .before .before .multiply-into .ensures)
+    (c .before .before .move-matrix .ensures)
 
 pub multiply-spec : {M : Type 1} → statement M
 multiply-spec =
