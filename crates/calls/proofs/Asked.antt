@@ -18,7 +18,7 @@ use Rattle.model.specs.Simulation.{Model}
 use Rattle.doors.specs.Doors.{ModelReady}
 use Rattle.model.specs.Schedule.{scheduleOf}
 use Rattle.vix.specs.declared.Vix.{Vix}
-use Rattle.vix.specs.Form.{vixInUse}
+use Rattle.vix.specs.Inner.Form.{vixInUse}
 use Rattle.walks.specs.declared.Observed.{Observed}
 use Rattle.batch.specs.declared.Payoff.{Payoff}
 use Rattle.walks.specs.Batch.{Batch, drawOf, observationOf, batchOf}

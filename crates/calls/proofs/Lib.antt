@@ -6,4 +6,3 @@ pub mod LastColumn
 pub mod Asked
 pub mod VanillaAsked
 pub mod VixAsked
-pub mod VixCall

@@ -4,6 +4,7 @@ use mathlib.Core.Bool.{false}
 use mathlib.Core.List.{List, _++_}
 use Prim.Native.Nat.{ℕ}
 use native.Mathlib.Omega.{arith}
+use lib.ListN.{length}
 use lib.Ieee.{Float}
 use Rattle.decimal.specs.Decimal.{value}
 use Rattle.refusal.specs.declared.Outcome.{Outcome}
@@ -18,18 +19,18 @@ use Rattle.model.specs.Inner.InUse.{kernelInUse}
 use Rattle.doors.specs.Questions.{modelQuestions}
 use Rattle.doors.specs.Doors.{ModelReady, ModelPrepared}
 use Rattle.vix.specs.declared.Vix.{Vix}
-use Rattle.vix.specs.Form.{vixInUse}
+use Rattle.vix.specs.declared.FormDoor.{FormDoor}
+use Rattle.vix.specs.Inner.Form.{vixInUse, FormPrepared}
 use Rattle.vix.specs.Build.{vixOf}
+use Rattle.vix.specs.Questions.{windowQuestions, formQuestions}
 use Rattle.walks.specs.declared.Observed.the-variants.{VixSquared}
 use Rattle.batch.specs.declared.Payoff.{Payoff}
 use Rattle.walks.specs.Batch.{Batch, observationOf, batchOf}
 use Rattle.batch.specs.Run.{Prepared, tableAfter}
-use Rattle.calls.specs.declared.FormDoor.{FormDoor}
 use Rattle.calls.specs.declared.Priced.{Priced}
 use Rattle.calls.specs.declared.Priced.the-variants as priced
 use Rattle.batch.specs.Claim.{BatchClaim}
 use Rattle.calls.specs.Batches.{batchQuestions, batchFor, pricedRun, answerOf}
-use Rattle.calls.specs.VixCall.{windowQuestions, formQuestions, FormPrepared}
 use Rattle.calls.specs.VixBatch.{VixBatchInputs, kernelIn, paramsIn, payoffFor}
 use Rattle.calls.specs.VixBatch.{payoffQuestions, vixBatchQuestions, throughSixteen}
 use Rattle.calls.specs.VixBatch.{vixBatch, vixBatchCall, vixBatchTable, VixBatchClaim}
@@ -58,7 +59,10 @@ same-of :
     → k ≡ k′ → p ≡ p′ → f k p ≡ f k′ p′
 same-of f a b = rw (a, b)
 
-module _ (i : VixBatchInputs) (size : ℕ) (lent : List Float) where
+module _ (i : VixBatchInputs) (work lent : List Float) where
+  abbrev size : ℕ
+  size = length work
+
   abbrev pub Ensured : Priced → List Float → Type 0
   Ensured r after =
       (r ≡ vixBatchCall i size lent)
@@ -118,8 +122,8 @@ module _ (i : VixBatchInputs) (size : ℕ) (lent : List Float) where
           h
 
       module _
-          (form : FormDoor)
-          (built : FormPrepared (kernelInUse (door .kernel)) (door .raw) (i .window) size form)
+          {after : List Float} (form : FormDoor)
+          (built : FormPrepared (kernelInUse (door .kernel)) (door .raw) (i .window) work after form)
         where
           second-is : firstNo (earlier i size) ≡ second i form
           second-is =
@@ -151,31 +155,31 @@ module _ (i : VixBatchInputs) (size : ℕ) (lent : List Float) where
 
             -- the form that the code has is the form over the window
             form-is :
-                vixInUse (form .vix)
+                vixInUse (form .form)
                 ≡ vixOf (kernelInUse (door .kernel)) (door .raw) (value (i .window))
             form-is = built .ready (earlier-passed (form .outcome) _ h)
 
-            factors-is : form .vix .n ≡ door .kernel .n
+            factors-is : form .form .n ≡ door .kernel .n
             unfolding vixOf
             factors-is = ap (λ (v : Vix). v .n) form-is
 
             module _ (l : sizes i lent door ≡ Passed) where
               pub handed :
-                  Prepared (door .kernel) (door .schedule) (form .vix) false (i .paths) (i .draws)
+                  Prepared (door .kernel) (door .schedule) (form .form) false (i .paths) (i .draws)
                   lent
               handed =
-                  prepared (door .kernel) (door .schedule) (form .vix) false (i .paths) (i .draws)
+                  prepared (door .kernel) (door .schedule) (form .form) false (i .paths) (i .draws)
                   lent (ready .kernel .few) (omega (arith, factors-is)) (ready .schedule .laid) l
 
               abbrev run : Batch
               run =
                   batchOf (door .kernel) (door .raw) (door .start) (door .schedule) VixSquared
-                  (form .vix) false (i .paths) (i .draws)
+                  (form .form) false (i .paths) (i .draws)
 
               run-is : run ≡ vixBatch i
               run-is =
                   same-batch (i .model) door ready false (i .paths) (i .draws) VixSquared
-                  (form .vix)
+                  (form .form)
                   ∙ ap
                   (λ (v : Vix).
                   batchFor (i .model) false (i .paths) (i .draws) (observationOf VixSquared v))

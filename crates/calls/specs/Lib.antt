@@ -1,4 +1,3 @@
-pub mod VixCall
 pub mod Batches
 pub mod Vanilla
 pub mod VixBatch

@@ -19,6 +19,7 @@ use Rattle.doors.specs.Questions.{modelQuestions}
 use Rattle.vix.specs.declared.Vix.{Vix}
 use Rattle.vix.specs.Form.{rawSquared}
 use Rattle.vix.specs.Build.{vixOf}
+use Rattle.vix.specs.Questions.{windowQuestions, formQuestions}
 use Rattle.walks.specs.declared.Observed.the-variants.{VixSquared}
 use Rattle.batch.specs.declared.Payoff.{Payoff}
 use Rattle.batch.specs.declared.Payoff.the-variants.{Future, Vanilla}
@@ -29,7 +30,6 @@ use Rattle.calls.specs.declared.Priced.{Priced}
 use Rattle.calls.specs.declared.VixPayoff.{VixPayoff}
 use Rattle.calls.specs.Batches.{strikeQuestions, batchQuestions, styleOf, batchFor}
 use Rattle.calls.specs.Batches.{refusedAfter, pricedRun}
-use Rattle.calls.specs.VixCall.{windowQuestions, formQuestions}
 
 -- What a VIX batch is given: a model, a window, a payoff, paths and draws.
 pub record VixBatchInputs : Type 0 where

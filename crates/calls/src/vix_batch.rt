@@ -10,7 +10,6 @@ ghost use Rattle.calls.specs.VixBatch.{throughSixteen};
 use crate::Priced;
 use crate::VixPayoff;
 use crate::batch_doors;
-use crate::form;
 use crate::pricing;
 use batch::Payoff;
 use decimal::Decimal;
@@ -83,7 +82,7 @@ pub fn price_vix(
     let raw = prepared.raw;
     let start = prepared.start;
     let schedule = prepared.schedule;
-    let door = form::prepare(kernel, raw, window, workspace);
+    let door = vix::prepare(kernel, raw, window, workspace);
     let second = door.outcome;
     match refusal::or_later(second, payoff_questions(payoff)) {
         Outcome::Refused(refusal) => {
@@ -103,7 +102,7 @@ pub fn price_vix(
         }
         Outcome::Passed => {}
     }
-    let form = door.vix;
+    let form = door.form;
     pricing::run_batch(
         kernel,
         raw,

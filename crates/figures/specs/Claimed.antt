@@ -24,7 +24,7 @@ use Rattle.batch.proofs.Claim.{run-claim}
 use Rattle.calls.specs.Batches.{batchFor, pricedRun, answerOf}
 use Rattle.calls.specs.Vanilla.{vanillaBatch, vanillaPayoff}
 use Rattle.calls.specs.VixBatch.{vixBatch, vixBatchCall, payoffFor}
-use Rattle.calls.specs.VixCall.{vixCall}
+use Rattle.vix_value.specs.Call.{vixCall}
 use Rattle.calls.proofs.Claims.{batch-claim}
 use Rattle.figures.specs.Given.{decimal, kernel, withA, params, calm, oneStep}
 use Rattle.figures.specs.Admitted.{nine, mirrored, vix, lent, priceOfNine, pricedAt}

@@ -19,10 +19,9 @@ use Rattle.trace.specs.Call.{traceInputs, traceCall, traceTables}
 use Rattle.exponentiation.specs.Call.{matrixInputs, exponentialCall, exponentialTable}
 use Rattle.refusal.specs.Refusal.{noPlace}
 use Rattle.terminal.specs.Answers.{conversion, vanillaAnswer}
-use Rattle.terminal.specs.Answers.{evaluatedAnswer}
-use Rattle.calls.specs.declared.Factors.{Factors}
 use Rattle.calls.specs.Vanilla.{vanillaCall}
-use Rattle.calls.specs.VixCall.{vixInputs, vixCall}
+use Rattle.vix_value.specs.declared.Factors.{Factors}
+use Rattle.vix_value.specs.Call.{vixInputs, vixCall}
 use Rattle.figures.specs.Given.{bits, decimal, weights, discounts, params, calm, oneStep}
 use Rattle.figures.specs.Given.{modelOf, callAt100}
 
@@ -86,7 +85,7 @@ factorZero = record { count = 1; factors = decimal 0 0 ∷ [] }
 abbrev pub evaluated : Decimal → Figure
 evaluated window =
     let i = vixInputs weights discounts calm window factorZero in
-    let a = evaluatedAnswer (vixCall i 80) in
+    let a = vixCall i 80 in
     figure (a .number) (a .place) (a .squared ∷ a .index ∷ []) []
 
 -- ---- the figures

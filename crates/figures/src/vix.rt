@@ -4,7 +4,7 @@ use crate::given::quarter;
 use crate::given::whole;
 use crate::report::same;
 use crate::report::tell;
-use calls::Factors;
+use vix_value::Factors;
 
 fn flat() -> bool {
     let mut workspace = [0.0; 80];

@@ -17,13 +17,13 @@ use crate::tables::workspace;
 use crate::tables::zeros;
 use crate::words::after;
 use crate::words::after_list;
-use calls::Factors;
 use calls::VixPayoff;
 use decimal::Decimal;
 use model::Params;
 use model::Segments;
-use terminal::VixAnswer;
 use terminal::VixBatchAnswer;
+use vix_value::Factors;
+use vix_value::VixValue;
 
 fn given(file: &[u8], at: usize) -> Factors {
     let factors = factors(file, after(at, 1));
@@ -34,7 +34,7 @@ fn given(file: &[u8], at: usize) -> Factors {
 }
 
 // Whether the answer is as at a place of the file: number and place, two values.
-fn same_evaluation(file: &[u8], at: usize, answer: VixAnswer) -> bool {
+fn same_evaluation(file: &[u8], at: usize, answer: VixValue) -> bool {
     let place = answer.place;
     let values = [answer.squared, answer.index];
     same_head(file, at, answer.number, place) & same_values(file, after_head(at), &values)

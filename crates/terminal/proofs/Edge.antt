@@ -2,29 +2,16 @@
 use mathlib.Core.Path.{_≡_, refl, sym, _∙_, ap, subst}
 use mathlib.Core.List.{List}
 use Prim.Native.Nat.{ℕ}
-use lib.Ieee.{binary64, ofBits}
-use Rattle.numeric.proofs.Doubles.{zero-is}
 use Rattle.refusal.specs.declared.Refusal.{Refusal}
 use Rattle.refusal.specs.Refusal.{numberOf, placeOf}
 use Rattle.walks.specs.declared.Observed.the-variants.{Spot, VixSquared}
 use Rattle.batch.specs.Claim.{BatchAnswer}
-use Rattle.calls.specs.declared.Evaluation.the-variants as evaluation
 use Rattle.calls.specs.declared.Priced.{Priced}
 use Rattle.calls.specs.declared.Priced.the-variants as priced
 use Rattle.calls.specs.Batches.{answerOf}
-use Rattle.terminal.specs.declared.VixAnswer.{VixAnswer}
 use Rattle.terminal.specs.declared.VanillaAnswer.{VanillaAnswer}
 use Rattle.terminal.specs.declared.VixBatchAnswer.{VixBatchAnswer}
-use Rattle.terminal.specs.Answers.{evaluatedAnswer}
 use Rattle.terminal.specs.Answers.{vanillaAnswer, readVanilla, vixBatchAnswer, readVixBatch}
-
-pub refusal-evaluated :
-    (r : Refusal) (number : ℕ) (place : List ℕ) → number ≡ numberOf r → place ≡ placeOf r
-    → let zero = ofBits binary64 0 in
-    _≡_ {A = VixAnswer}
-    (record { number = number; place = place; squared = zero; index = zero })
-    (evaluatedAnswer (evaluation.Refused r))
-refusal-evaluated r number place e f = rw (e, f, zero-is)
 
 -- ---- what the claim speaks of is read off an exported answer
 vanilla-read : (r : Priced) → readVanilla (vanillaAnswer r) ≡ answerOf Spot r

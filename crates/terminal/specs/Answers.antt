@@ -8,9 +8,6 @@ use Rattle.numeric.specs.Double.{plusZero}
 use Rattle.refusal.specs.Refusal.{numberOf, placeOf, noPlace}
 use Rattle.batch.specs.Claim.{BatchAnswer}
 use Rattle.terminal.specs.declared.Conversion.{Conversion}
-use Rattle.calls.specs.declared.Evaluation.{Evaluation}
-use Rattle.calls.specs.declared.Evaluation.the-variants as evaluation
-use Rattle.terminal.specs.declared.VixAnswer.{VixAnswer}
 use Rattle.calls.specs.declared.Priced.{Priced}
 use Rattle.calls.specs.declared.Priced.the-variants as priced
 use Rattle.terminal.specs.declared.VanillaAnswer.{VanillaAnswer}
@@ -60,17 +57,6 @@ readVanilla a =
       steps = a .steps;
     }
 
--- evaluating the VIX: VIX squared and the index; at a refusal its number and place
-abbrev pub evaluatedAnswer : Evaluation → VixAnswer
-evaluatedAnswer (evaluation.Done squared index) =
-    record { number = 0; place = noPlace; squared = squared; index = index }
-evaluatedAnswer (evaluation.Refused refusal) =
-    record {
-      number = numberOf refusal;
-      place = placeOf refusal;
-      squared = plusZero;
-      index = plusZero;
-    }
 
 -- pricing a VIX batch: payoff and index, each with its standard error, paths and the steps taken;
 -- at a refusal only these are kept

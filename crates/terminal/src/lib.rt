@@ -1,7 +1,5 @@
 // The outer calls, as C and Rust programs link them (include/qrh.h). An answer begins with its
 // number, 0 where the call is answered and else the refusal's, and its place, 0 where there is none.
-use calls::Evaluation;
-use calls::Factors;
 use calls::Priced;
 use calls::VixPayoff;
 use decimal::Converted;
@@ -10,6 +8,8 @@ use exponentiation::Exponentiation;
 use model::Params;
 use model::Segments;
 use trace::Tracing;
+use vix_value::Factors;
+use vix_value::VixValue;
 ghost use mathlib.Core.Path.{_≡_};
 ghost use mathlib.Core.Bool.{true, false};
 ghost use lib.ListN.{length};
@@ -24,9 +24,9 @@ ghost use Rattle.exponentiation.specs.Call.{matrixInputs, ExponentialAnswered};
 ghost use Rattle.refusal.specs.Questions.{firstNo, KeptUnlessPassed};
 ghost use Rattle.calls.specs.VixBatch.{vixBatchInputs, vixBatchCall, vixBatchTable, VixBatchClaim};
 ghost use Rattle.calls.specs.VixBatch.{throughSixteen};
-ghost use Rattle.calls.specs.VixCall.{vixInputs, vixCall, throughWorkspace};
+ghost use Rattle.vix_value.specs.Call.{vixInputs, VixValueAnswered};
 ghost use Rattle.terminal.specs.Answers.{conversion};
-ghost use Rattle.terminal.specs.Answers.{evaluatedAnswer, vanillaAnswer, readVanilla};
+ghost use Rattle.terminal.specs.Answers.{vanillaAnswer, readVanilla};
 ghost use Rattle.terminal.specs.Answers.{vixBatchAnswer, readVixBatch};
 ghost use Rattle.calls.specs.Vanilla.{vanillaInputs, vanillaCall, vanillaTable, VanillaClaim};
 
@@ -251,37 +251,6 @@ pub extern "C" fn qrh_exponential(
     exponentiation::exponentiate(dimension, input, output, workspace)
 }
 
-#[repr(C)]
-pub struct VixAnswer {
-    pub number: u32,
-    pub place: [u64; 4],
-    pub squared: f64,
-    pub index: f64,
-}
-
-fn vix_answer(call: Evaluation) -> VixAnswer
-    ensures { λ r. ⌜ r ≡ evaluatedAnswer call ⌝ }
-{
-    match call {
-        Evaluation::Done { squared, index } => VixAnswer {
-            number: 0,
-            place: [0; 4],
-            squared: squared,
-            index: index,
-        },
-        Evaluation::Refused(refusal) => {
-            let number = refusal::number(refusal);
-            let place = refusal::place(refusal);
-            VixAnswer {
-                number: number,
-                place: place,
-                squared: 0.0,
-                index: 0.0,
-            }
-        }
-    }
-}
-
 #[no_mangle]
 pub extern "C" fn qrh_vix(
     weights: &[f64],
@@ -290,14 +259,12 @@ pub extern "C" fn qrh_vix(
     window: Decimal,
     given: Factors,
     workspace: &mut [f64],
-) -> VixAnswer
-    ensures answer { λ r. ⌜ r ≡ evaluatedAnswer (vixCall (vixInputs (now (weights .entry)) (now (discounts .entry)) params window given)
-        (length (now (workspace .entry)))) ⌝ }
-    ensures workspace { λ r. ⌜ KeptUnlessPassed
-        (firstNo (throughWorkspace (vixInputs (now (weights .entry)) (now (discounts .entry)) params window given) (length (now (workspace .entry)))))
-        (now (workspace .entry)) (now (workspace .exit)) ⌝ }
+) -> VixValue
+    ensures { λ r. ⌜ VixValueAnswered
+        (vixInputs (now (weights .entry)) (now (discounts .entry)) params window given)
+        (now (workspace .entry)) (now (workspace .exit)) r ⌝ }
 {
-    vix_answer(calls::evaluating::evaluate(weights, discounts, params, window, given, workspace))
+    vix_value::evaluate(weights, discounts, params, window, given, workspace)
 }
 
 // The values of a VIX batch, in the order in which they are reported. At a refusal they are zeros, but

@@ -14,8 +14,9 @@ use Rattle.matrix.specs.Matrix.{entry}
 use Rattle.matrix.specs.Inner.Workspace.{matrixAt}
 use Rattle.matrix.proofs.Cells.{inside}
 use Rattle.vix.specs.declared.Vix.{Vix}
-use Rattle.vix.specs.Form.{pairsBefore, vixInUse}
-use Rattle.vix.specs.Generator.{dimension, integralAt}
+use Rattle.generator_rows.specs.State.{pairsBefore}
+use Rattle.vix.specs.Inner.Form.{vixInUse}
+use Rattle.generator_rows.specs.State.{dimension, integralAt}
 use Rattle.vix.specs.Build.{formOf}
 
 form-same : {n : ℕ} {s s' c c' : Float} {l l' p p' : List Float} → s ≡ s' → c ≡ c' → l ≡ l' → p ≡ p' → _≡_ {A = Vix} (record { n = n; scale = s; constant = c; linear = l; pairs = p }) (record { n = n; scale = s'; constant = c'; linear = l'; pairs = p' })

@@ -1,6 +1,6 @@
--- The quadratic form of the VIX, from the exponential of the generator, and what its door answers. Definitions only.
-use mathlib.Core.Path.{_≡_}
-use mathlib.Core.Bool.{Bool, true, false}
+-- Rules 13.1 and 13.2: the quadratic form of the VIX, from the exponential of the generator.
+-- Definitions only.
+use mathlib.Core.Bool.{Bool}
 use mathlib.Core.List.{List}
 use Prim.Native.Nat.{ℕ, _+_}
 use lib.IntN.{pos}
@@ -10,15 +10,13 @@ use Rattle.numeric.specs.Table.{tabulate}
 use Rattle.model.specs.declared.Kernel.{Kernel}
 use Rattle.model.specs.declared.RawParams.{RawParams}
 use Rattle.matrix.specs.Matrix.{entry}
-use Rattle.exponential.specs.Exponential.{exponential, exponentialFinite}
+use Rattle.matrix.specs.Exponential.{exponential, exponentialFinite}
+use Rattle.generator_rows.specs.State.{pairsBefore, integralAt, constantAt, dimension}
+use Rattle.generator.specs.Generator.{generator}
 use Rattle.vix.specs.declared.Vix.{Vix}
-use Rattle.vix.specs.declared.Built.{Built}
-use Rattle.vix.specs.declared.Built.the-variants.{Done, NotFinite}
-use Rattle.vix.specs.declared.VixDoor.{VixDoor}
-use Rattle.vix.specs.Form.{pairsBefore, vixInUse}
-use Rattle.vix.specs.Generator.{dimension, integralAt, constantAt, generator}
 
--- The integral's row of a matrix over the state makes a form in n factors: the coefficients of the factors, of the pairs and the constant. Its scale is 10000 / window.
+-- Rule 13.1: the integral's row of a matrix over the state makes a form in n factors: the
+-- coefficients of the factors, of the pairs and the constant. Its scale is 10000 / window.
 unfoldable pub formOf : ℕ → Float → List Float → Vix
 unfolding tabulate div ofInt pairsBefore
 formOf n window m =
@@ -31,21 +29,13 @@ formOf n window m =
       pairs = tabulate (pairsBefore n n) (λ i. row (n + i));
     }
 
--- the form over a window, from the exponential of the generator
+-- Rule 13.1: the form over a window, from the exponential of the generator
 unfoldable pub vixOf : Kernel → RawParams → Float → Vix
 unfolding formOf exponential generator pairsBefore
-vixOf k p window = formOf (k .n) window (exponential (dimension (k .n)) (generator k p window))
+vixOf k p window =
+    formOf (k .n) window (exponential (dimension (k .n)) (generator k p window))
 
--- "17 Are norm, twice norm and every entry of the exponential finite?"
+-- Rule 13.2: the exponential of the generator is finite (rule 12.8)
 unfoldable pub momentsFinite : Kernel → RawParams → Float → Bool
 unfolding exponentialFinite generator pairsBefore
 momentsFinite k p window = exponentialFinite (dimension (k .n)) (generator k p window)
-
-abbrev pub builtIf : Bool → Built
-builtIf true = Done
-builtIf false = NotFinite
-
-pub record VixPrepared (k : Kernel) (p : RawParams) (window : Float) (r : VixDoor) : Type 0 where
-  pub outcome : r .outcome ≡ builtIf (momentsFinite k p window)
-  pub factors : r .vix .n ≡ k .n
-  pub ready : r .outcome ≡ Done → vixInUse (r .vix) ≡ vixOf k p window

@@ -1,4 +1,4 @@
--- The evaluation of the VIX at a factor state. Definitions only.
+-- Rule 13.5: the evaluation of the VIX at a factor state. Definitions only.
 use mathlib.Core.Bool.{Bool, true, false}
 use mathlib.Core.List.{List}
 use lib.Ieee.{Float, binary64, lt}
@@ -9,7 +9,7 @@ use Rattle.vix.specs.declared.Evaluated.{Evaluated}
 use Rattle.vix.specs.declared.Evaluated.the-variants.{Done, NotFinite, NotPositive}
 use Rattle.vix.specs.Form.{rawSquared}
 
--- "23 Is each last VIX squared finite? 24 Above zero?" Then the index is its root.
+-- Rule 13.5: whether VIX squared is finite, then whether it is above zero; the index is its root.
 abbrev pub evaluatedBy : Bool → Bool → Float → Evaluated
 evaluatedBy false above squared = NotFinite
 evaluatedBy true false squared = NotPositive

@@ -1,5 +1,5 @@
 pub mod Form
-pub mod Generator
-pub mod Appended
 pub mod Build
+pub mod Questions
 pub mod Evaluation
+pub mod Inner

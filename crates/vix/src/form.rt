@@ -4,12 +4,12 @@ ghost use Prim.Native.Nat.{_+_, _*_, _≤_};
 ghost use lib.Ieee.{nan};
 ghost use lib.ListN.{length, getD, take};
 ghost use Rattle.numeric.specs.Table.{tabulate};
-ghost use Rattle.matrix.specs.Inner.Workspace.{matrixAt};
-ghost use Rattle.vix.specs.Form.{vixInUse};
-ghost use Rattle.vix.specs.Generator.{dimension};
+ghost use Rattle.matrix.specs.Workspace.{matrixAt};
+ghost use Rattle.generator_rows.specs.State.{dimension};
 ghost use Rattle.vix.specs.Build.{formOf};
+ghost use Rattle.vix.specs.Inner.Form.{vixInUse};
 use crate::Vix;
-use crate::state;
+use generator_rows::state;
 
 // Copies the `count` doubles at `at` of the workspace to the front of `into`.
 fn copy_front(count: usize, at: usize, work: &[f64], into: &mut [f64])

@@ -2,23 +2,26 @@
 ghost use mathlib.Core.Path.{_≡_};
 ghost use Prim.Native.Nat.{_+_, _*_, _-_, _≤_, _<_};
 ghost use lib.ListN.{length, take};
-ghost use Rattle.vix.specs.Form.{pairsBefore, linearValue, rowValue, rawSquared, vixInUse, noForm};
-ghost use Rattle.vix.specs.Generator.{dimension};
-ghost use Rattle.model.specs.Inner.InUse.{kernelInUse};
-ghost use Rattle.vix.specs.Build.{VixPrepared};
+ghost use Rattle.refusal.specs.Questions.{firstNo};
+ghost use Rattle.model.specs.Step.{kernelInUse};
+ghost use Rattle.generator_rows.specs.State.{pairsBefore};
+ghost use Rattle.vix.specs.Form.{linearValue, rowValue, rawSquared};
+ghost use Rattle.vix.specs.Questions.{windowQuestions};
 ghost use Rattle.vix.specs.Evaluation.{evaluation};
+ghost use Rattle.vix.specs.Inner.Form.{vixInUse, noForm, FormPrepared};
 
 mod form;
-mod generator;
-mod rows;
-mod state;
 
-use exponential::Exponentiated;
+use decimal::Decimal;
+use generator_rows::state;
+use matrix::Exponentiated;
 use model::Kernel;
 use model::RawParams;
+use refusal::Outcome;
+use refusal::Refusal;
 
-// 10000 / window, and the coefficients of the value: of each factor, of each pair i ≤ j row by row, and
-// the constant. n factors are in use, and n × (n + 1) / 2 pairs.
+// 10000 / window, and the coefficients of the value: of each factor, of each pair i ≤ j row by row,
+// and the constant. n factors are in use, and n × (n + 1) / 2 pairs.
 pub struct Vix {
     pub n: usize,
     pub scale: f64,
@@ -27,20 +30,14 @@ pub struct Vix {
     pub pairs: [f64; 55],
 }
 
-// Whether the conditional moments stay finite over the window.
-pub enum Built {
-    Done,
-    NotFinite,
+// The door of the form answers what its questions came to and, where all passed, the form.
+pub struct FormDoor {
+    pub outcome: Outcome,
+    pub form: Vix,
 }
 
-// The door of the VIX answers what question 17 came to and, where it passed, the form.
-pub struct VixDoor {
-    pub outcome: Built,
-    pub vix: Vix,
-}
-
-// What an evaluation gives: the VIX squared and the index, or that VIX squared is not finite, or not
-// above zero.
+// What an evaluation gives: the VIX squared and the index, or that VIX squared is not finite, or
+// not above zero.
 pub enum Evaluated {
     Done { squared: f64, index: f64 },
     NotFinite,
@@ -94,14 +91,6 @@ pub fn raw_squared(v: Vix, factors: [f64; 10]) -> f64
     v.scale * value
 }
 
-// The dimension of the moment system of n factors.
-pub fn dimension_of(n: usize) -> usize
-    requires { ⌜ n ≤ 10 ⌝ }
-    ensures { λ r. ⌜ r ≡ dimension n ⌝ }
-{
-    n + state::pairs_before(n, n) + 2
-}
-
 // A form in n factors that is zero, where none is built or looked at.
 pub fn no_form(n: usize) -> Vix
     ensures { λ r. ⌜ r ≡ noForm n ⌝ }
@@ -115,23 +104,49 @@ pub fn no_form(n: usize) -> Vix
     }
 }
 
-// The form over a window, by the exponential of the moment system's generator. work is 5 × dimension²
-// doubles, and what it held before is lost.
-pub fn build(k: Kernel, p: RawParams, window: f64, work: &mut [f64]) -> VixDoor
-    requires { ⌜ (k .n ≤ 10) × (length (now work) ≡ 5 * (dimension (k .n) * dimension (k .n))) ⌝ }
-    ensures { λ r. ⌜ VixPrepared (kernelInUse k) p window r ⌝ }
+// 15, 1 of the window, and 16.
+fn window_questions(n: usize, window: Decimal, workspace: usize) -> Outcome
+    requires { ⌜ n ≤ 10 ⌝ }
+    ensures { λ r. ⌜ r ≡ firstNo (windowQuestions n window workspace) ⌝ }
+{
+    let dim = state::dimension_of(n);
+    let asked = refusal::ask(
+        Outcome::Passed,
+        Refusal::Plain(15),
+        decimal::is_positive(window),
+    );
+    let asked = refusal::ask(asked, Refusal::Plain(1), decimal::scale_fits(window));
+    refusal::ask(asked, Refusal::Plain(16), workspace == 5 * (dim * dim))
+}
+
+fn refused(refusal: Refusal) -> FormDoor
+    ensures { λ r. ⌜ r .outcome ≡ Outcome.Refused refusal ⌝ }
+{
+    FormDoor {
+        outcome: Outcome::Refused(refusal),
+        form: no_form(0),
+    }
+}
+
+// The form over a window, by the exponential of the moment system's generator. Where 15, 1 or 16
+// gets a No the workspace is as lent; else what it held before is lost.
+pub fn prepare(k: Kernel, p: RawParams, window: Decimal, workspace: &mut [f64]) -> FormDoor
+    requires { ⌜ k .n ≤ 10 ⌝ }
+    ensures { λ r. ⌜ FormPrepared (kernelInUse k) p window
+        (now (workspace .entry)) (now (workspace .exit)) r ⌝ }
 {
     let n = k.n;
-    let dim = dimension_of(n);
-    generator::fill(k, p, window, dim, work);
-    match exponential::exponential(dim, work) {
-        Exponentiated::NotFinite => VixDoor {
-            outcome: Built::NotFinite,
-            vix: no_form(n),
-        },
-        Exponentiated::Done(_) => VixDoor {
-            outcome: Built::Done,
-            vix: form::of_matrix(n, dim, window, work),
+    if let Outcome::Refused(refusal) = window_questions(n, window, workspace.len()) {
+        return refused(refusal);
+    }
+    let span = decimal::double_of(window);
+    let dim = state::dimension_of(n);
+    generator::fill(k, p, span, dim, workspace);
+    match matrix::exponential(dim, workspace) {
+        Exponentiated::NotFinite => refused(Refusal::Plain(17)),
+        Exponentiated::Done(_) => FormDoor {
+            outcome: Outcome::Passed,
+            form: form::of_matrix(n, dim, span, workspace),
         },
     }
 }

@@ -19,8 +19,8 @@ use Rattle.model.specs.Step.{step, finiteness}
 use Rattle.model.specs.Inner.InUse.{stateInUse}
 use Rattle.model.proofs.Containment.{Reached, reached-in-use, dt-reached, sqrt-dt-reached}
 use Rattle.vix.specs.declared.Vix.{Vix}
-use Rattle.vix.specs.Form.{vixInUse}
-use Rattle.vix.proofs.Pairs.{squared-in-use}
+use Rattle.vix.specs.Inner.Form.{vixInUse}
+use Rattle.vix.proofs.InUse.{squared-in-use}
 use Rattle.walks.specs.declared.Observed.{Observed}
 use Rattle.walks.specs.declared.Observed.the-variants.{Spot, VixSquared}
 use Rattle.walks.specs.Batch.{drawPlace, drawsNeeded}

@@ -6,8 +6,10 @@ use native.Mathlib.Omega.{arith}
 use borrow.Author.Needs.{needs}
 use lib.Ieee.{Float}
 use Rattle.numeric.specs.Double.{times}
-use Rattle.vix.specs.Form.{pairsBefore, valueThrough, rawSquared}
-use Rattle.vix.proofs.Pairs.{row-most, squared-in-use}
+use Rattle.generator_rows.specs.State.{pairsBefore}
+use Rattle.vix.specs.Form.{valueThrough, rawSquared}
+use Rattle.generator_rows.proofs.Pairs.{row-most}
+use Rattle.vix.proofs.InUse.{squared-in-use}
 use Rattle.vix.proofs.raw_squared.Statement.{statement}
 use Rattle.vix.proofs.raw_squared.Tie as tie
 

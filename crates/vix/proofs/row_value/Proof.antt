@@ -4,8 +4,9 @@ use mathlib.Core.Path.{_≡_, refl, ap, _∙_}
 use native.Mathlib.Numerals.{add-one}
 use native.Mathlib.Omega.{arith}
 use borrow.Author.Needs.{needs}
-use Rattle.vix.specs.Form.{pairsBefore, rowValue}
-use Rattle.vix.proofs.Pairs.{row-most}
+use Rattle.generator_rows.specs.State.{pairsBefore}
+use Rattle.vix.specs.Form.{rowValue}
+use Rattle.generator_rows.proofs.Pairs.{row-most}
 use Rattle.vix.proofs.row_value.Statement.{statement}
 use Rattle.vix.proofs.row_value.Tie as tie
 

@@ -9,7 +9,7 @@ use Rattle.refusal.specs.declared.Outcome.the-variants.{Passed}
 use Rattle.refusal.specs.Questions.{firstNo, orLater, KeptUnlessPassed}
 use Rattle.model.specs.Simulation.{given}
 use Rattle.doors.specs.Doors.{ModelReady}
-use Rattle.calls.specs.VixCall.{windowQuestions}
+use Rattle.vix.specs.Questions.{windowQuestions}
 use Rattle.calls.specs.VixBatch.{VixBatchInputs, vixBatchInputs, throughSixteen}
 use Rattle.refusal.proofs.Laws.{kept-same}
 use Rattle.calls.proofs.VixAsked.{second, model-refused, ready, kept, second-refused, sizes-refused, handed, priced-through}
@@ -49,7 +49,7 @@ start c = entry (model (asked (form c)))
 -- ---- what is known there
 model-ready : (c : tie.After-enum-told) → ModelReady (inputs (entry (model c)) .model) (model c .prepare .result)
 model-ready c =
-    ready (inputs (entry (model c))) (size (entry (model c))) (entry (model c) .args .seen .now) (model c .prepare .result) (model c .prepare .ensures) (c .enum-told .given .1)
+    ready (inputs (entry (model c))) (entry (model c) .args .workspace .now) (entry (model c) .args .seen .now) (model c .prepare .result) (model c .prepare .ensures) (c .enum-told .given .1)
 
 second-is : (c : tie.After-or-later) → c .or-later .result ≡ second (inputs (start c)) (form c .prepare2 .result)
 second-is c =
@@ -62,7 +62,7 @@ second-passed c = sym (second-is (paid c)) ∙ c .enum-told2 .given .1
 workspace-kept : (c : tie.After-or-later) (after : List Float) → KeptUnlessPassed (firstNo (windowQuestions (model (asked (form c)) .prepare .result .kernel .n) (start c .args .window) (size (start c)))) (start c .args .workspace .now) after → KeptUnlessPassed (firstNo (throughSixteen (inputs (start c)) (size (start c)))) (start c .args .workspace .now) after
 workspace-kept c after =
     let told = asked (form c) in
-    kept (inputs (start c)) (size (start c)) (start c .args .seen .now) (model told .prepare .result) (model told .prepare .ensures) (told .enum-told .given .1) (start c .args .workspace .now) after
+    kept (inputs (start c)) (start c .args .workspace .now) (start c .args .seen .now) (model told .prepare .result) (model told .prepare .ensures) (told .enum-told .given .1) (start c .args .workspace .now) after
 
 prepare-requires : tie.Need-prepare-requires
 prepare-requires c κs = search needs
@@ -73,7 +73,7 @@ enum-known-first c = search needs
 returns : tie.Need-returns
 returns c =
     let here = c .before .before .before in
-    let said = model-refused (inputs (entry here)) (size (entry here)) (entry here .args .seen .now) (here .prepare .result) (here .prepare .ensures) _ (c .before .first .given .1) in
+    let said = model-refused (inputs (entry here)) (entry here .args .workspace .now) (entry here .args .seen .now) (here .prepare .result) (here .prepare .ensures) _ (c .before .first .given .1) in
     (said .0, (said .1 .0, (said .1 .1, kept-same (firstNo (throughSixteen (inputs (entry here)) (size (entry here)))) (entry here .args .workspace .now))))
 
 enum-told : tie.Need-enum-told
@@ -98,8 +98,8 @@ returns-2 : tie.Need-returns-2
 returns-2 c =
     let here = c .before .before .before in
     let told = asked (form here) in
-    let said = second-refused (inputs (start here)) (size (start here)) (start here .args .seen .now) (model told .prepare .result) (model told .prepare .ensures) (told .enum-told .given .1) (form here .prepare2 .result) (form here .prepare2 .ensures .0) _ (sym (second-is here) ∙ c .before .refusal .given .1) in
-    (said .0, (said .1 .0, (said .1 .1, workspace-kept here _ (form here .prepare2 .ensures .1))))
+    let said = second-refused (inputs (start here)) (start here .args .workspace .now) (start here .args .seen .now) (model told .prepare .result) (model told .prepare .ensures) (told .enum-told .given .1) (form here .prepare2 .result) (form here .prepare2 .ensures) _ (sym (second-is here) ∙ c .before .refusal .given .1) in
+    (said .0, (said .1 .0, (said .1 .1, workspace-kept here _ (form here .prepare2 .ensures .workspace))))
 
 enum-told-2 : tie.Need-enum-told-2
 enum-told-2 c = search needs
@@ -123,8 +123,8 @@ returns-3 c =
     let here = c .before .before .before in
     let pay = here .before .before in
     let told = asked (form (paid pay)) in
-    let said = sizes-refused (inputs (start (paid pay))) (size (start (paid pay))) (start (paid pay) .args .seen .now) (model told .prepare .result) (model told .prepare .ensures) (told .enum-told .given .1) (form (paid pay) .prepare2 .result) (form (paid pay) .prepare2 .ensures .0) (second-passed pay) _ (sym (here .batch-questions .ensures) ∙ c .before .refusal2 .given .1) in
-    (said .0, (said .1 .0, (said .1 .1, workspace-kept (paid pay) _ (form (paid pay) .prepare2 .ensures .1))))
+    let said = sizes-refused (inputs (start (paid pay))) (start (paid pay) .args .workspace .now) (start (paid pay) .args .seen .now) (model told .prepare .result) (model told .prepare .ensures) (told .enum-told .given .1) (form (paid pay) .prepare2 .result) (form (paid pay) .prepare2 .ensures) (second-passed pay) _ (sym (here .batch-questions .ensures) ∙ c .before .refusal2 .given .1) in
+    (said .0, (said .1 .0, (said .1 .1, workspace-kept (paid pay) _ (form (paid pay) .prepare2 .ensures .workspace))))
 
 enum-told-3 : tie.Need-enum-told-3
 enum-told-3 c = search needs
@@ -137,7 +137,7 @@ run-batch-requires c κs =
     let here = c .before .before .before in
     let pay = sized here .before .before in
     let told = asked (form (paid pay)) in
-    (handed (inputs (start (paid pay))) (size (start (paid pay))) (start (paid pay) .args .seen .now) (model told .prepare .result) (model told .prepare .ensures) (told .enum-told .given .1) (form (paid pay) .prepare2 .result) (form (paid pay) .prepare2 .ensures .0) (second-passed pay) (sym (sized here .batch-questions .ensures) ∙ here .enum-told3 .given .1), model-ready told .admitted)
+    (handed (inputs (start (paid pay))) (start (paid pay) .args .workspace .now) (start (paid pay) .args .seen .now) (model told .prepare .result) (model told .prepare .ensures) (told .enum-told .given .1) (form (paid pay) .prepare2 .result) (form (paid pay) .prepare2 .ensures) (second-passed pay) (sym (sized here .batch-questions .ensures) ∙ here .enum-told3 .given .1), model-ready told .admitted)
 
 same-length-4 : tie.Need-same-length-4
 same-length-4 c = search needs
@@ -151,8 +151,8 @@ returns-4 c =
     let here = ran .before .before .before .before in
     let pay = sized here .before .before in
     let told = asked (form (paid pay)) in
-    let said = priced-through (inputs (start (paid pay))) (size (start (paid pay))) (start (paid pay) .args .seen .now) (model told .prepare .result) (model told .prepare .ensures) (told .enum-told .given .1) (form (paid pay) .prepare2 .result) (form (paid pay) .prepare2 .ensures .0) (second-passed pay) (sym (sized here .batch-questions .ensures) ∙ here .enum-told3 .given .1) (ran .before .before .payoff-of .ensures) (ran .run-batch .ensures) in
-    (said .0, (said .1 .0, (said .1 .1, workspace-kept (paid pay) _ (form (paid pay) .prepare2 .ensures .1))))
+    let said = priced-through (inputs (start (paid pay))) (start (paid pay) .args .workspace .now) (start (paid pay) .args .seen .now) (model told .prepare .result) (model told .prepare .ensures) (told .enum-told .given .1) (form (paid pay) .prepare2 .result) (form (paid pay) .prepare2 .ensures) (second-passed pay) (sym (sized here .batch-questions .ensures) ∙ here .enum-told3 .given .1) (ran .before .before .payoff-of .ensures) (ran .run-batch .ensures) in
+    (said .0, (said .1 .0, (said .1 .1, workspace-kept (paid pay) _ (form (paid pay) .prepare2 .ensures .workspace))))
 
 pub price-vix-spec : {M : Type 1} → statement M
 price-vix-spec =

@@ -3,8 +3,8 @@ use mathlib.Core.Path.{refl}
 use Prim.Native.Nat.{ℕ, _+_, _-_, _*_, _≤_}
 use native.Mathlib.Omega.{arith}
 use lib.Ieee.{ofBits, ofInt}
-use Rattle.vix.proofs.Pairs.{pairs-most}
-use Rattle.vix.proofs.Places.{row-fits}
+use Rattle.generator_rows.proofs.Pairs.{pairs-most}
+use Rattle.generator.proofs.Fits.{row-fits}
 use Rattle.vix.proofs.Formed.{formed}
 use borrow.Author.Needs.{needs}
 use Rattle.vix.proofs.form.of_matrix.Statement.{statement}

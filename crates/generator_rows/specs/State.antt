@@ -1,0 +1,60 @@
+-- Rules 11.1 and 11.2: the order of the moment system's state, and the places in it. Indices count
+-- from 0. Definitions only.
+use mathlib.Core.Path.{_≡_}
+use mathlib.Core.List.{List, [], _++_}
+use Prim.Native.Nat.{ℕ, zero, suc, _+_, _-_, _*_, _/_, _≤_, _<_, min, max}
+use lib.ListN.{length, getD}
+use lib.Ieee.{Float, nan}
+
+-- f 0, f 1, .. f (n - 1), one after the other
+unfoldable pub joined : (ℕ → List Float) → ℕ → List Float
+joined f zero = []
+joined f (suc n) = joined f n ++ f n
+
+-- what there is for each pair (i, j) with i ≤ j: for the first k pairs of row i, and for those of
+-- the first i rows, of n factors
+unfoldable pub pairsOfRow : (ℕ → ℕ → List Float) → ℕ → ℕ → List Float
+unfolding joined
+pairsOfRow pair i k = joined (λ m. pair i (i + m)) k
+
+unfoldable pub pairsOfRows : (ℕ → ℕ → List Float) → ℕ → ℕ → List Float
+unfolding joined pairsOfRow
+pairsOfRows pair n i = joined (λ r. pairsOfRow pair r (n - r)) i
+
+-- Rule 11.1: the n means, the pairs row by row, the integral of E[V], the constant.
+unfoldable pub inStateOrder : ℕ → (ℕ → List Float) → (ℕ → ℕ → List Float)
+    → List Float → List Float → List Float
+unfolding joined pairsOfRows
+inStateOrder n mean pair integral constant =
+    joined mean n ++ pairsOfRows pair n n ++ integral ++ constant
+
+-- Rule 11.2: how many pairs stand in the rows before row i, of n factors.
+unfoldable pub pairsBefore : ℕ → ℕ → ℕ
+pairsBefore n zero = 0
+pairsBefore n (suc i) = pairsBefore n i + (n - i)
+
+-- Rule 11.2: mean i stands at i; here is the place of the pair of i and j, in either order, of the
+-- integral and of the constant; and how long the state is.
+abbrev pub pairAt : ℕ → ℕ → ℕ → ℕ
+pairAt n i j = n + pairsBefore n (min i j) + (max i j - min i j)
+
+abbrev pub integralAt : ℕ → ℕ
+integralAt n = n + pairsBefore n n
+
+abbrev pub constantAt : ℕ → ℕ
+constantAt n = integralAt n + 1
+
+abbrev pub dimension : ℕ → ℕ
+dimension n = integralAt n + 2
+
+-- The law of these places: in a row over the state each of them holds what belongs there, and the
+-- row is as long as n means, n × (n + 1) / 2 pairs, the integral and the constant.
+pub record InOrder (n : ℕ) (mean : ℕ → Float) (pair : ℕ → ℕ → Float) (integral constant : Float)
+    (row : List Float) : Type 0 where
+  pub mean-at : (i : ℕ) → i < n → getD row i nan ≡ mean i
+  pub pair-at : (i j : ℕ) → i ≤ j → j < n → getD row (pairAt n i j) nan ≡ pair i j
+  pub same-pair : (i j : ℕ) → pairAt n j i ≡ pairAt n i j
+  pub integral-at : getD row (integralAt n) nan ≡ integral
+  pub constant-at : getD row (constantAt n) nan ≡ constant
+  pub long : length row ≡ dimension n
+  pub dimension-is : dimension n ≡ n + n * (n + 1) / 2 + 2
