@@ -77,7 +77,7 @@ fn observe(observation: Observation, s: Lanes, factors: &[f64]) -> [f64; 4]
         Observed::Spot => s.spot,
         Observed::VixSquared => {
             let form = observation.form;
-            lanes::form::squared(form, factors)
+            vix_lanes::squared(form, factors)
         }
     }
 }

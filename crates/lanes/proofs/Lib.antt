@@ -1,3 +1,2 @@
 pub mod Four
 pub mod Moving
-pub mod Forms

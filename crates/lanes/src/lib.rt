@@ -7,9 +7,8 @@ ghost use lib.ListN.{length};
 ghost use Rattle.lanes.specs.Inner.Lanes.{AllAt, Spread, FiniteLane};
 use model::State;
 
-pub mod form;
 mod roots;
-mod rows;
+pub mod rows;
 pub mod scheme;
 
 // Four states but for their factors: a path's spot, z and variance are in one place of each.

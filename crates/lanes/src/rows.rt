@@ -19,12 +19,7 @@ pub(crate) fn move_row(forcing: [f64; 4], divisor: f64, at: usize, factors: &mut
 }
 
 // sum + multiple × factor, in each lane, of the four factors at a place.
-pub(crate) fn add_products(
-    sum: [f64; 4],
-    multiples: [f64; 4],
-    at: usize,
-    factors: &[f64],
-) -> [f64; 4]
+pub fn add_products(sum: [f64; 4], multiples: [f64; 4], at: usize, factors: &[f64]) -> [f64; 4]
     requires { ⌜ (at ≤ 36) × (at + 4 ≤ length (now factors)) ⌝ }
     ensures { λ r. ⌜ ((l : ℕ) → l < 4 → getD r l nan ≡ plus (getD sum l nan)
         (times (getD multiples l nan) (getD (now (factors .entry)) (at + l) nan))) ⌝ }

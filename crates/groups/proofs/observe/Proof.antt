@@ -6,10 +6,11 @@ use native.Mathlib.Omega.{arith}
 use borrow.Author.Needs.{needs}
 use lib.Ieee.{Float}
 use Rattle.vix.specs.declared.Vix.{Vix}
-use Rattle.vix.specs.Form.{rawSquared, vixInUse}
-use Rattle.vix.proofs.Pairs.{squared-in-use}
+use Rattle.vix.specs.Form.{rawSquared}
+use Rattle.vix.specs.Inner.Form.{vixInUse}
+use Rattle.vix.proofs.InUse.{squared-in-use}
 use Rattle.lanes.specs.Inner.Lanes.{laneFactors}
-use Rattle.lanes.proofs.Forms.{lane-take}
+use Rattle.vix_lanes.proofs.Forms.{lane-take}
 use Rattle.groups.proofs.observe.Statement.{statement}
 use Rattle.groups.proofs.observe.Tie as tie
 

@@ -1,4 +1,4 @@
--- `lanes::form::add_pairs` meets its contract. Assumes nothing.
+-- `vix_lanes::add_pairs` meets its contract. Assumes nothing.
 use mathlib.Core.Path.{_≡_, refl, sym, ap, _∙_}
 use Prim.Native.Nat.{ℕ, _+_, _-_, _≤_, _<_}
 use native.Mathlib.Omega.{arith}
@@ -7,11 +7,11 @@ use lib.ListN.{getD}
 use lib.Ieee.{nan}
 use Rattle.vix.specs.declared.Vix.{Vix}
 use Rattle.vix.specs.Form.{rowValue}
-use Rattle.vix.proofs.Pairs.{row-most}
+use Rattle.generator_rows.proofs.Pairs.{row-most}
 use Rattle.lanes.specs.Inner.Lanes.{laneFactors}
-use Rattle.lanes.proofs.Forms.{pair-more}
-use Rattle.lanes.proofs.form.add_pairs.Statement.{statement}
-use Rattle.lanes.proofs.form.add_pairs.Tie as tie
+use Rattle.vix_lanes.proofs.Forms.{pair-more}
+use Rattle.vix_lanes.proofs.add_pairs.Statement.{statement}
+use Rattle.vix_lanes.proofs.add_pairs.Tie as tie
 
 abbrev Inv-loop : tie.InvT-loop
 Inv-loop n i first pairs factors rest sum₀ m₀ sum m =

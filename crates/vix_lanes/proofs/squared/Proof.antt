@@ -1,4 +1,4 @@
--- `lanes::form::squared` meets its contract. Assumes nothing.
+-- `vix_lanes::squared` meets its contract. Assumes nothing.
 use mathlib.Core.Path.{_≡_, refl, sym, ap, _∙_}
 use Prim.Native.Nat.{ℕ, _-_, _≤_, _<_}
 use native.Mathlib.Numerals.{add-one}
@@ -7,13 +7,15 @@ use borrow.Author.Needs.{needs}
 use lib.ListN.{length, getD}
 use lib.Ieee.{Float, nan}
 use Rattle.numeric.specs.Double.{times}
-use Rattle.vix.specs.Form.{pairsBefore, valueThrough, rawSquared, vixInUse}
-use Rattle.vix.proofs.Pairs.{row-most}
+use Rattle.generator_rows.specs.State.{pairsBefore}
+use Rattle.vix.specs.Form.{valueThrough, rawSquared}
+use Rattle.vix.specs.Inner.Form.{vixInUse}
+use Rattle.generator_rows.proofs.Pairs.{row-most}
 use Rattle.lanes.specs.Inner.Lanes.{laneFactors}
 use Rattle.lanes.proofs.Four.{four-of}
-use Rattle.lanes.proofs.Forms.{squared-is}
-use Rattle.lanes.proofs.form.squared.Statement.{statement}
-use Rattle.lanes.proofs.form.squared.Tie as tie
+use Rattle.vix_lanes.proofs.Forms.{squared-is}
+use Rattle.vix_lanes.proofs.squared.Statement.{statement}
+use Rattle.vix_lanes.proofs.squared.Tie as tie
 
 abbrev Inv-loop : tie.InvT-loop
 Inv-loop form factors n pairs value₀ first₀ i₀ value first i =

@@ -1,4 +1,4 @@
--- `lanes::form::multiples` meets its contract. Assumes nothing.
+-- `vix_lanes::multiples` meets its contract. Assumes nothing.
 use mathlib.Core.Path.{_≡_, refl}
 use Prim.Native.Nat.{ℕ, _+_}
 use native.Mathlib.Nat.{add-zero}
@@ -6,9 +6,9 @@ use borrow.Author.Needs.{needs}
 use lib.ListN.{getD}
 use lib.Ieee.{Float, nan}
 use Rattle.numeric.specs.Double.{times}
 use Rattle.lanes.proofs.Four.{four-of}
-use Rattle.lanes.proofs.form.multiples.Statement.{statement}
-use Rattle.lanes.proofs.form.multiples.Tie as tie
+use Rattle.vix_lanes.proofs.multiples.Statement.{statement}
+use Rattle.vix_lanes.proofs.multiples.Tie as tie
 
 mul-lane-0 : tie.Need-mul-lane-0
 mul-lane-0 c = search needs

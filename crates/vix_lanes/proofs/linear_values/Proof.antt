@@ -1,4 +1,4 @@
--- `lanes::form::linear_values` meets its contract. Assumes nothing.
+-- `vix_lanes::linear_values` meets its contract. Assumes nothing.
 use mathlib.Core.Path.{_≡_, sym, ap, _∙_}
 use Prim.Native.Nat.{ℕ, _-_, _≤_, _<_}
 use native.Mathlib.Omega.{arith}
@@ -7,11 +7,11 @@ use lib.ListN.{getD}
 use lib.Ieee.{nan}
 use Rattle.vix.specs.declared.Vix.{Vix}
 use Rattle.vix.specs.Form.{linearValue}
 use Rattle.lanes.specs.Inner.Lanes.{laneFactors}
 use Rattle.lanes.proofs.Four.{four-same}
-use Rattle.lanes.proofs.Forms.{linear-more}
-use Rattle.lanes.proofs.form.linear_values.Statement.{statement}
-use Rattle.lanes.proofs.form.linear_values.Tie as tie
+use Rattle.vix_lanes.proofs.Forms.{linear-more}
+use Rattle.vix_lanes.proofs.linear_values.Statement.{statement}
+use Rattle.vix_lanes.proofs.linear_values.Tie as tie
 
 abbrev Inv-loop : tie.InvT-loop
 Inv-loop n constant linear factors value₀ i₀ value i =

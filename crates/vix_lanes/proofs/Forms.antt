@@ -9,9 +9,11 @@ use lib.Ieee.{Float, nan}
 use Rattle.numeric.specs.Double.{plus, times}
 use Rattle.numeric.proofs.Tables.{getD-tabulate, length-tabulate, take-is-tabulate}
 use Rattle.vix.specs.declared.Vix.{Vix}
-use Rattle.vix.specs.Form.{pairsBefore, linearValue, rowValue, valueThrough, rawSquared, vixInUse}
-use Rattle.vix.proofs.Pairs.{squared-in-use}
+use Rattle.generator_rows.specs.State.{pairsBefore}
+use Rattle.vix.specs.Form.{linearValue, rowValue, valueThrough, rawSquared}
+use Rattle.vix.specs.Inner.Form.{vixInUse}
+use Rattle.vix.proofs.InUse.{squared-in-use}
 use Rattle.lanes.specs.Inner.Lanes.{laneFactors}
 
 -- factor i of a lane
 lane-factor : (n i l : ℕ) (factors : List Float) → i < n → getD (laneFactors n factors l) i nan ≡ getD factors (4 * i + l) nan

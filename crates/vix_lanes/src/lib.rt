@@ -4,10 +4,12 @@ ghost use Prim.Native.Nat.{ℕ, _+_, _≤_, _<_};
 ghost use lib.ListN.{length, getD};
 ghost use lib.Ieee.{nan};
 ghost use Rattle.numeric.specs.Double.{times};
-ghost use Rattle.vix.specs.Form.{pairsBefore, rawSquared, vixInUse};
+ghost use Rattle.generator_rows.specs.State.{pairsBefore};
+ghost use Rattle.vix.specs.Form.{rawSquared};
+ghost use Rattle.vix.specs.Inner.Form.{vixInUse};
 ghost use Rattle.lanes.specs.Inner.Lanes.{laneFactors};
-ghost use Rattle.lanes.specs.Inner.Form.{LinearValues, RowAdded};
-use crate::rows;
+ghost use Rattle.vix_lanes.specs.Inner.Form.{LinearValues, RowAdded};
+use lanes::rows;
 use vix::Vix;
 
 // coefficient × factor, in each lane, of the four factors at a place.
