@@ -13,7 +13,7 @@ use lib.Ieee.{Float, nan, neg}
 use Rattle.numeric.specs.Double.{plus, times, one, plusZero}
 use Rattle.model.specs.declared.Kernel.{Kernel}
 use Rattle.model.specs.declared.RawParams.{RawParams}
-use Rattle.model.specs.Step.{kernelInUse}
+use Rattle.model.specs.Inner.InUse.{kernelInUse}
 use Rattle.generator_rows.specs.State.{dimension, pairAt}
 use Rattle.generator_rows.specs.Rows.{weight, discount, two, meanCoefficient, pairCoefficient, meanReversion, meanEntry, meanRow, driftEntry, varianceRow, pairRow}
 use Rattle.numeric.proofs.Tables.{take-is-tabulate}

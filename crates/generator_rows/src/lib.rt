@@ -6,7 +6,7 @@ ghost use Prim.Native.Nat.{ℕ, _+_, _-_, _≤_, _<_};
 ghost use lib.Ieee.{nan};
 ghost use lib.ListN.{length, getD, take, set};
 ghost use Rattle.numeric.specs.Double.{plus, plusZero};
-ghost use Rattle.model.specs.Step.{kernelInUse};
+ghost use Rattle.model.specs.Inner.InUse.{kernelInUse};
 ghost use Rattle.generator_rows.specs.Inner.Appended.{Appended};
 ghost use Rattle.generator_rows.specs.State.{dimension, pairAt, joined, pairsOfRow, InOrder};
 ghost use Rattle.generator_rows.specs.Rows.{meanCoefficient, pairCoefficient};

@@ -17,10 +17,11 @@ use Rattle.refusal.proofs.Laws.{then, stops, never-both, passed-head, passed-ta
 use Rattle.refusal.proofs.Laws.{kept-same, kept-free}
 use Rattle.model.specs.declared.Kernel.{Kernel}
 use Rattle.model.specs.declared.RawParams.{RawParams}
-use Rattle.matrix.specs.Exponential.{exponential}
-use Rattle.matrix.specs.Workspace.{matrixAt, exponentiated, Holds}
-use Rattle.matrix.specs.declared.Exponentiated.{Exponentiated}
-use Rattle.matrix.specs.declared.Exponentiated.the-variants as answers
+use Rattle.exponential.specs.Exponential.{exponential}
+use Rattle.exponential.specs.Inner.Workspace.{exponentiated, Holds}
+use Rattle.matrix.specs.Inner.Workspace.{matrixAt}
+use Rattle.exponential.specs.declared.Exponentiated.{Exponentiated}
+use Rattle.exponential.specs.declared.Exponentiated.the-variants as answers
 use Rattle.generator_rows.specs.State.{dimension}
 use Rattle.generator.specs.Generator.{generator}
 use Rattle.vix.specs.declared.Vix.{Vix}

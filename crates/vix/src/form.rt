@@ -4,7 +4,7 @@ ghost use Prim.Native.Nat.{_+_, _*_, _≤_};
 ghost use lib.Ieee.{nan};
 ghost use lib.ListN.{length, getD, take};
 ghost use Rattle.numeric.specs.Table.{tabulate};
-ghost use Rattle.matrix.specs.Workspace.{matrixAt};
+ghost use Rattle.matrix.specs.Inner.Workspace.{matrixAt};
 ghost use Rattle.generator_rows.specs.State.{dimension};
 ghost use Rattle.vix.specs.Build.{formOf};
 ghost use Rattle.vix.specs.Inner.Form.{vixInUse};

@@ -3,7 +3,7 @@ ghost use mathlib.Core.Path.{_≡_};
 ghost use Prim.Native.Nat.{_+_, _*_, _-_, _≤_, _<_};
 ghost use lib.ListN.{length, take};
 ghost use Rattle.refusal.specs.Questions.{firstNo};
-ghost use Rattle.model.specs.Step.{kernelInUse};
+ghost use Rattle.model.specs.Inner.InUse.{kernelInUse};
 ghost use Rattle.generator_rows.specs.State.{pairsBefore};
 ghost use Rattle.vix.specs.Form.{linearValue, rowValue, rawSquared};
 ghost use Rattle.vix.specs.Questions.{windowQuestions};
@@ -14,7 +14,7 @@ mod form;
 
 use decimal::Decimal;
 use generator_rows::state;
-use matrix::Exponentiated;
+use exponential::Exponentiated;
 use model::Kernel;
 use model::RawParams;
 use refusal::Outcome;
@@ -142,7 +142,7 @@ pub fn prepare(k: Kernel, p: RawParams, window: Decimal, workspace: &mut [f64]) 
     let span = decimal::double_of(window);
     let dim = state::dimension_of(n);
     generator::fill(k, p, span, dim, workspace);
-    match matrix::exponential(dim, workspace) {
+    match exponential::exponential(dim, workspace) {
         Exponentiated::NotFinite => refused(Refusal::Plain(17)),
         Exponentiated::Done(_) => FormDoor {
             outcome: Outcome::Passed,

@@ -17,7 +17,7 @@ use Rattle.model.specs.declared.Kernel.{Kernel}
 use Rattle.model.specs.declared.RawParams.{RawParams}
 use Rattle.model.specs.Kernel.{kernelOf}
 use Rattle.model.specs.Parameters.{rawParams, rawFactors}
-use Rattle.model.specs.Step.{kernelInUse}
+use Rattle.model.specs.Inner.InUse.{kernelInUse}
 use Rattle.doors.specs.declared.KernelDoor.{KernelDoor}
 use Rattle.doors.specs.declared.ParamsDoor.{ParamsDoor}
 use Rattle.doors.specs.Questions.{kernelQuestions, paramsQuestions}

@@ -4,7 +4,7 @@ ghost use Prim.Native.Nat.{suc, _+_, _<_, _≤_};
 ghost use lib.ListN.{length, getD};
 ghost use lib.Ieee.{nan};
 ghost use Rattle.model.specs.Inner.InUse.{stateInUse};
-ghost use Rattle.vix.specs.Form.{noForm};
+ghost use Rattle.vix.specs.Inner.Form.{noForm};
 ghost use Rattle.walks.specs.Batch.{drawPlace, drawOf};
 ghost use Rattle.walks.specs.Inner.Handed.{observeBy};
 use model::Simulation;

@@ -5,7 +5,7 @@ use native.Mathlib.Omega.{arith}
 use borrow.Author.Needs.{needs}
 use lib.ListN.{length, length-set}
 use lib.Ieee.{ofBits}
-use Rattle.model.specs.Step.{kernelInUse}
+use Rattle.model.specs.Inner.InUse.{kernelInUse}
 use Rattle.generator_rows.specs.Rows.{driftEntry}
 use Rattle.generator_rows.proofs.Entries.{Entries, zeros}
 use Rattle.generator_rows.proofs.Additions.{drift-first, drift-next, drift-all, inside}

@@ -10,7 +10,7 @@ use lib.Ieee.{Float, ofBits}
 use Rattle.numeric.specs.Double.{plusZero}
 use Rattle.model.specs.declared.Kernel.{Kernel}
 use Rattle.model.specs.declared.RawParams.{RawParams}
-use Rattle.model.specs.Step.{kernelInUse}
+use Rattle.model.specs.Inner.InUse.{kernelInUse}
 use Rattle.generator_rows.specs.Inner.Appended.{Appended}
 use Rattle.generator_rows.specs.State.{pairsBefore, dimension, integralAt, pairsOfRows, InOrder}
 use Rattle.generator_rows.specs.Rows.{meanCoefficient, pairCoefficient, constantCoefficient, varianceRow}

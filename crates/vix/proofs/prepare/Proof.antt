@@ -7,7 +7,7 @@ use lib.ListN.{length}
 use borrow.Author.Needs.{needs}
 use Rattle.refusal.specs.declared.Outcome.the-variants.{Passed}
 use Rattle.refusal.specs.Questions.{firstNo}
-use Rattle.model.specs.Step.{kernelInUse}
+use Rattle.model.specs.Inner.InUse.{kernelInUse}
 use Rattle.generator_rows.proofs.Places.{dimension-most}
 use Rattle.vix.specs.Questions.{windowQuestions}
 use Rattle.vix.proofs.Building.{workspace-right, refused-early, not-finite, built}

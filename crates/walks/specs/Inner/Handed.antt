@@ -5,7 +5,8 @@ use lib.Ieee.{Float}
 use Rattle.model.specs.declared.State.{State}
 use Rattle.model.specs.Inner.InUse.{simulationInUse}
 use Rattle.vix.specs.declared.Vix.{Vix}
-use Rattle.vix.specs.Form.{rawSquared, vixInUse}
+use Rattle.vix.specs.Form.{rawSquared}
+use Rattle.vix.specs.Inner.Form.{vixInUse}
 use Rattle.walks.specs.declared.Batch.{Batch as Handed}
 use Rattle.walks.specs.declared.Observation.{Observation}
 use Rattle.walks.specs.declared.Observed.{Observed}
