@@ -8,9 +8,9 @@ use Rattle.numeric.specs.Double.{plus, finite}
 use Rattle.matrix.specs.Matrix.{scaled, allFinite}
 use Rattle.matrix.specs.Inner.Workspace.{matrixAt}
 use Rattle.exponential.specs.Norm.{norm1}
-use Rattle.exponential.specs.Exponential.{twoToMinus, squarings, horner, squared}
+use Rattle.exponential.specs.Exponential.{twoToMinus, squarings, IsLeast, horner, squared}
 use Rattle.exponential.specs.Exponential.{exponentialBy, exponential, exponentialFinite}
-use Rattle.exponential.specs.Inner.Workspace.{exponentiated, Holds, Started}
+use Rattle.exponential.specs.Inner.Workspace.{exponentiated, Holds, Fewest, Started}
 use Rattle.exponential.specs.declared.Exponentiated.{Exponentiated}
 use Rattle.exponential.specs.declared.Exponentiated.the-variants.{Done, NotFinite}
 
@@ -72,3 +72,7 @@ pub held :
     (s : ℕ) (o : Exponentiated) (place result : List Float) → o ≡ Done s → Holds o place result
     → place ≡ result
 held s o place result e h = subst (λ (x : Exponentiated). Holds x place result) e h
+
+-- and its number of squarings is the least
+pub fewest : (s : ℕ) (o : Exponentiated) (norm : Float) → o ≡ Done s → Fewest o norm → IsLeast norm s
+fewest s o norm e h = subst (λ (x : Exponentiated). Fewest x norm) e h

@@ -3,8 +3,9 @@ ghost use mathlib.Core.Path.{_≡_};
 ghost use Prim.Native.Nat.{_*_, _≤_};
 ghost use lib.ListN.{length};
 ghost use Rattle.matrix.specs.Inner.Workspace.{matrixAt};
+ghost use Rattle.exponential.specs.Norm.{norm1};
 ghost use Rattle.exponential.specs.Exponential.{exponential};
-ghost use Rattle.exponential.specs.Inner.Workspace.{exponentiated, Holds};
+ghost use Rattle.exponential.specs.Inner.Workspace.{exponentiated, Holds, Fewest};
 
 mod norm;
 mod scaling;
@@ -26,6 +27,7 @@ pub fn exponential(dim: usize, work: &mut [f64]) -> Exponentiated
     ensures answer { λ r. ⌜ r ≡ exponentiated dim (matrixAt dim 0 (now (work .entry))) ⌝ }
     ensures result { λ r. ⌜ Holds r (matrixAt dim 0 (now (work .exit)))
         (exponential dim (matrixAt dim 0 (now (work .entry)))) ⌝ }
+    ensures least { λ r. ⌜ Fewest r (norm1 dim (matrixAt dim 0 (now (work .entry)))) ⌝ }
 {
     let size = dim * dim;
     let norm = norm::norm_1(dim, &work[..size]);

@@ -1,6 +1,6 @@
 -- The questions of the matrix call, and what it promises where each of them ends it. Assumes
 -- nothing.
-use mathlib.Core.Path.{_≡_, refl, sym, ap, _∙_}
+use mathlib.Core.Path.{_≡_, refl, sym, ap, _∙_, subst}
 use mathlib.Core.Bool.{Bool, true, false, cond, _&&_, and-eq-true-iff}
 use mathlib.Core.List.{List, [], _∷_}
 use Prim.Native.Nat.{ℕ, _*_, _≤_, _<_}
@@ -12,10 +12,11 @@ use borrow.Author.Tests.{leb-true, eqb-true, lt-leb, le-leb, eq-eqb, ne-eqb}
 use Rattle.refusal.specs.declared.Refusal.{Refusal}
 use Rattle.refusal.specs.declared.Refusal.the-variants.{Plain}
 use Rattle.refusal.specs.declared.Outcome.{Outcome}
+use Rattle.refusal.specs.Refusal.{numberOf}
 use Rattle.refusal.specs.Questions.{Question, asked, firstNo, KeptUnlessPassed}
 use Rattle.refusal.proofs.Laws.{then, stops, kept-same, kept-free}
 use Rattle.exponential.specs.Norm.{norm1}
-use Rattle.exponential.specs.Exponential.{squarings, exponential, exponentialFinite}
+use Rattle.exponential.specs.Exponential.{squarings, IsLeast, exponential, exponentialFinite}
 use Rattle.exponential.specs.Inner.Workspace.{exponentiated}
 use Rattle.exponential.specs.declared.Exponentiated.{Exponentiated}
 use Rattle.exponential.specs.declared.Exponentiated.the-variants.{Done, NotFinite}
@@ -84,8 +85,8 @@ module _ (i : MatrixInputs) where
   pub same-answer :
       {r r' : Exponentiation} {after after-work : List Float} → r ≡ r'
       → ExponentialAnswered i r' after after-work → ExponentialAnswered i r after after-work
-  same-answer e p =
-      record { answer = e ∙ p .answer; output = p .output; workspace = p .workspace }
+  same-answer {after = after} {after-work = after-work} e p =
+      subst (λ (x : Exponentiation). ExponentialAnswered i x after after-work) (sym e) p
 
   abbrev sizes : List Question
   sizes = sizeQuestions i
@@ -97,18 +98,25 @@ module _ (i : MatrixInputs) where
   isFinite = exponentialFinite (i .dimension) (i .input)
 
   refused-by :
-      (r : Refusal) (after-work : List Float) → firstNo (exponentialQuestions i) ≡ Outcome.Refused r
+      (r : Refusal) (after-work : List Float) → 0 < numberOf r
+      → firstNo (exponentialQuestions i) ≡ Outcome.Refused r
       → KeptUnlessPassed (firstNo sizes) (i .workspace) after-work
       → ExponentialAnswered i (refused r) (i .output) after-work
   unfolding exponentialCall exponentialTable
-  refused-by r after-work e kept = record { answer = rw e; output = rw e; workspace = kept }
+  refused-by r after-work h e kept =
+      record {
+        answer = rw e;
+        least = λ q. absurd (omega (arith, h, q));
+        output = rw e;
+        workspace = kept;
+      }
 
   sizes-refused :
-      (r : Refusal) → firstNo sizes ≡ Outcome.Refused r
+      (r : Refusal) → 0 < numberOf r → firstNo sizes ≡ Outcome.Refused r
       → ExponentialAnswered i (refused r) (i .output) (i .workspace)
   unfolding exponentialQuestions
-  sizes-refused r e =
-      refused-by r (i .workspace) (stops sizes (last isFinite) r e)
+  sizes-refused r h e =
+      refused-by r (i .workspace) h (stops sizes (last isFinite) r e)
       (kept-same (firstNo sizes) (i .workspace))
 
   abbrev shape : Bool
@@ -120,14 +128,15 @@ module _ (i : MatrixInputs) where
   pub shape-no :
       shape ≡ false → ExponentialAnswered i (refused (Plain 26)) (i .output) (i .workspace)
   unfolding sizeQuestions firstNo
-  shape-no e = sizes-refused (Plain 26) (rw e)
+  shape-no e = sizes-refused (Plain 26) (omega arith) (rw e)
 
   module _ (e : shape ≡ true) where
     pub workspace-no :
         (length (i .workspace) ≡ room → ⊥)
         → ExponentialAnswered i (refused (Plain 16)) (i .output) (i .workspace)
     unfolding sizeQuestions firstNo
-    workspace-no h = sizes-refused (Plain 16) (rw (e, ne-eqb (length (i .workspace)) room h))
+    workspace-no h =
+        sizes-refused (Plain 16) (omega arith) (rw (e, ne-eqb (length (i .workspace)) room h))
 
     module _ (long : length (i .workspace) ≡ room) (after-work : List Float) where
       sizes-passed : firstNo sizes ≡ Outcome.Passed
@@ -145,7 +154,8 @@ module _ (i : MatrixInputs) where
           NotFinite ≡ exponentiated (i .dimension) (i .input)
           → ExponentialAnswered i (refused (Plain 17)) (i .output) after-work
       unfolding exponentiated firstNo
-      not-finite q = refused-by (Plain 17) after-work (at-17 false (is-false isFinite _ q)) free
+      not-finite q =
+          refused-by (Plain 17) after-work (omega arith) (at-17 false (is-false isFinite _ q)) free
 
       all-passed : isFinite ≡ true → firstNo (exponentialQuestions i) ≡ Outcome.Passed
       unfolding firstNo
@@ -154,11 +164,17 @@ module _ (i : MatrixInputs) where
       pub done :
           (s : ℕ) (after : List Float) → Done s ≡ exponentiated (i .dimension) (i .input)
           → after ≡ exponential (i .dimension) (i .input)
+          → IsLeast (norm1 (i .dimension) (i .input)) s
           → ExponentialAnswered i (answered s) after after-work
       unfolding exponentiated exponentialCall exponentialTable
-      done s after q h =
+      done s after q h few =
           let all-finite = is-true isFinite _ _ q in
           let passed = all-passed all-finite in
           let found = squarings (norm1 (i .dimension) (i .input)) in
           let count : Done s ≡ Done found = q ∙ rw all-finite in
-          record { answer = ap told count ∙ rw passed; output = rw passed h; workspace = free }
+          record {
+            answer = ap told count ∙ rw passed;
+            least = λ zero. few;
+            output = rw passed h;
+            workspace = free;
+          }

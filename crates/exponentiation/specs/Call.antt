@@ -12,7 +12,7 @@ use Rattle.refusal.specs.Refusal.{numberOf, noPlace, placeOf}
 use Rattle.refusal.specs.Questions.{Question, asked, firstNo}
 use Rattle.refusal.specs.Questions.{onceAsked, writtenOnceAsked, KeptUnlessPassed}
 use Rattle.exponential.specs.Norm.{norm1}
-use Rattle.exponential.specs.Exponential.{squarings, exponential, exponentialFinite}
+use Rattle.exponential.specs.Exponential.{squarings, IsLeast, exponential, exponentialFinite}
 use Rattle.exponentiation.specs.declared.Exponentiation.{Exponentiation}
 
 -- Rule 15.6: what the call is given, a dimension and a matrix, and what it is lent, a matrix for
@@ -71,10 +71,11 @@ exponentialTable i =
     writtenOnceAsked (firstNo (exponentialQuestions i)) (i .output)
     (exponential (i .dimension) (i .input))
 
--- ---- all that the call promises: of its answer, and of the lent matrix and the workspace as it
--- leaves them (Rules 15.6, 16.4 and 16.5)
+-- ---- all that the call promises: of its answer, of the number of squarings where it is answered,
+-- and of the lent matrix and the workspace as it leaves them (Rules 15.6, 12.3, 16.4 and 16.5)
 pub record ExponentialAnswered
     (i : MatrixInputs) (r : Exponentiation) (after after-work : List Float) : Type 0 where
   pub answer : r ≡ exponentialCall i
+  pub least : r .number ≡ 0 → IsLeast (norm1 (i .dimension) (i .input)) (r .squarings)
   pub output : after ≡ exponentialTable i
   pub workspace : KeptUnlessPassed (firstNo (sizeQuestions i)) (i .workspace) after-work

@@ -1,12 +1,14 @@
 -- `exponential` meets its contract. Assumes nothing.
-use mathlib.Core.Path.{_≡_, sym, ap, _∙_}
+use mathlib.Core.Path.{_≡_, sym, ap, _∙_, subst}
 use Prim.Native.Nat.{ℕ}
+use lib.Ieee.{Float}
 use native.Mathlib.Omega.{arith}
 use mathlib.Core.Bool.{Bool, true, false, cond}
 use Rattle.numeric.specs.Double.{plus, finite}
 use borrow.Author.Tests.{not-true, not-false}
 use Rattle.matrix.specs.Matrix.{allFinite}
-use Rattle.exponential.specs.Exponential.{twoToMinus, exponential}
+use Rattle.exponential.specs.Norm.{norm1}
+use Rattle.exponential.specs.Exponential.{twoToMinus, IsLeast, exponential}
 use Rattle.matrix.specs.Inner.Workspace.{matrixAt}
 use Rattle.exponential.specs.Inner.Workspace.{exponentiated}
 use Rattle.exponential.specs.declared.Exponentiated.the-variants.{Done, NotFinite}
@@ -59,6 +61,17 @@ told c b h =
     ∙ entries-told _ _ _ (normed (first c) .norm-1 .ensures) (norm-finite (first c)) _ b
     (twice-finite (second c)) (result-is c) h
 
+-- the number of squarings is the least
+least-is :
+    (c : tie.After-exponential-by) →
+    let s = start (normed (first c)) in
+    let norm = norm1 (s .args .dim) (matrixAt (s .args .dim) 0 (s .args .work .now)) in
+    IsLeast norm (c .before .before .of-norm .result .squarings)
+least-is c =
+    let count = c .before .before .of-norm in
+    subst (λ (norm : Float). IsLeast norm (count .result .squarings))
+    (normed (first c) .norm-1 .ensures) (count .ensures .1 .1)
+
 mul-size : tie.Need-mul-size
 mul-size c = omega (arith, small (c .before .pre .0))
 
@@ -81,7 +94,7 @@ returns : tie.Need-returns
 returns c = (
   norm-not _ _ _ (c .before .before .norm-1 .ensures)
       (sym (c .before .is-finite .ensures) ∙ not-true _ (c .if1 .taken)),
-  tt,
+  (tt, tt),
 )
 
 is-finite-requires-2 : tie.Need-is-finite-requires-2
@@ -94,7 +107,7 @@ returns-2 : tie.Need-returns-2
 returns-2 c = (
   twice-not _ _ _ (normed (c .before .before) .norm-1 .ensures) (norm-finite (c .before .before))
       (sym (c .before .is-finite2 .ensures) ∙ not-true _ (c .if2 .taken)),
-  tt,
+  (tt, tt),
 )
 
 of-norm-requires : tie.Need-of-norm-requires
@@ -124,7 +137,8 @@ same-length-3 c = search needs
 returns-3 : tie.Need-returns-3
 returns-3 c =
     let e = c .before .before .before .before .before in
-    (told e true (sym (c .if3 .taken) ∙ c .before .is-finite3 .ensures), result-is e)
+    let entries = sym (c .if3 .taken) ∙ c .before .is-finite3 .ensures in
+    (told e true entries, (result-is e, least-is e))
 
 same-length-4 : tie.Need-same-length-4
 same-length-4 c = search needs
@@ -133,7 +147,7 @@ returns-4 : tie.Need-returns-4
 returns-4 c = (
   told (c .before .before .before .before .before) false
       (sym (c .if3 .left) ∙ c .before .is-finite3 .ensures),
-  tt,
+  (tt, tt),
 )
 
 pub exponential-spec : {M : Type 1} → statement M

@@ -7,7 +7,7 @@ use lib.Ieee.{Float}
 use Rattle.matrix.specs.Matrix.{scaled, identity}
 use Rattle.matrix.specs.Inner.Workspace.{matrixAt}
 use Rattle.exponential.specs.Norm.{norm1}
-use Rattle.exponential.specs.Exponential.{squarings, exponentialFinite}
+use Rattle.exponential.specs.Exponential.{squarings, IsLeast, exponentialFinite}
 use Rattle.exponential.specs.declared.Exponentiated.{Exponentiated}
 use Rattle.exponential.specs.declared.Exponentiated.the-variants.{Done, NotFinite}
 
@@ -22,6 +22,11 @@ exponentiated n a =
 abbrev pub Holds : Exponentiated → List Float → List Float → Type 0
 Holds (Done s) place result = place ≡ result
 Holds NotFinite place result = Unit {0}
+
+-- and no smaller number of squarings is enough for the norm
+abbrev pub Fewest : Exponentiated → Float → Type 0
+Fewest (Done s) norm = IsLeast norm s
+Fewest NotFinite norm = Unit {0}
 
 -- the first matrix is the identity, and the second what the first was, scaled
 pub record Started (n : ℕ) (factor : Float) (before after : List Float) : Type 0 where

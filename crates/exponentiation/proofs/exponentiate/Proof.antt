@@ -1,18 +1,20 @@
 -- `exponentiate` meets its contract. Assumes nothing.
-use mathlib.Core.Path.{_≡_, sym, ap, _∙_}
+use mathlib.Core.Path.{_≡_, sym, ap, _∙_, subst}
 use mathlib.Core.Bool.{true}
-use mathlib.Core.List.{_++_}
+use mathlib.Core.List.{List, _++_}
 use Prim.Native.Nat.{ℕ, _*_}
 use native.Mathlib.Omega.{arith}
 use lib.ListN.{length, take, drop}
+use lib.Ieee.{Float}
 use borrow.Author.Needs.{needs}
 use borrow.Author.Tests.{not-true, not-false}
 use Rattle.matrix.specs.Inner.Workspace.{matrixAt}
 use Rattle.matrix.proofs.Cells.{small}
 use Rattle.matrix.proofs.Workspaces.{long-front, long-put, first-put}
-use Rattle.exponential.specs.Exponential.{exponential}
+use Rattle.exponential.specs.Norm.{norm1}
+use Rattle.exponential.specs.Exponential.{IsLeast, exponential}
 use Rattle.exponential.specs.Inner.Workspace.{exponentiated}
-use Rattle.exponential.proofs.Outcome.{held}
+use Rattle.exponential.proofs.Outcome.{held, fewest}
 use Rattle.exponentiation.specs.Call.{MatrixInputs, matrixInputs, shapeRight}
 use Rattle.exponentiation.proofs.Answers.{Right, right, same-answer}
 use Rattle.exponentiation.proofs.Answers.{shape-no, workspace-no, not-finite, done}
@@ -173,11 +175,16 @@ returns-4 c =
     let i = of-call e in
     let result =
     copy .copy2 .ensures
-    ∙ held _ _ _ _ (told .1) (e .exponential .ensures .1)
-    ∙ ap (exponential _) (input-kept (copied e)) in
+    ∙ held _ _ _ _ (told .1) (e .exponential .ensures .1 .0)
+    ∙ ap (exponential _) (input-kept (copied e))
+    in
+    let least =
+    subst (λ (a : List Float). IsLeast (norm1 (i .dimension) a) (told .0 .0))
+    (input-kept (copied e)) (fewest _ _ _ (told .1) (e .exponential .ensures .1 .1))
+    in
     same-answer i (c .answered .ensures)
     (done i (shape (shaped (copied e))) (copied e .before .before .if2 .left)
-    (e .exponential .last .1 .0) (told .0 .0) _ (sym (told .1) ∙ outcome-is e) result)
+    (e .exponential .last .1 .0) (told .0 .0) _ (sym (told .1) ∙ outcome-is e) result least)
 
 pub exponentiate-spec : {M : Type 1} → statement M
 exponentiate-spec =
