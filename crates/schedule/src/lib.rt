@@ -78,11 +78,8 @@ pub fn from_segments(g: Segments) -> ScheduleDoor
     while i < count {
         let s = segments[i];
         total += s.steps as usize;
-        match segment_questions(s, (i as u64) + 1, total) {
-            Outcome::Refused(refusal) => {
-                return refused(refusal);
-            }
-            Outcome::Passed => {}
+        if let Outcome::Refused(refusal) = segment_questions(s, (i as u64) + 1, total) {
+            return refused(refusal);
         }
         let converted = decimal::double_of(s.dt);
         dt[i] = converted;

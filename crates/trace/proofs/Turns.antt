@@ -120,8 +120,8 @@ module _ (m : Simulation) (draws : List Float) (lent : Tables) where
         pub done-tables :
             (t′ : Tables) → at ≡ total → AllThrough w n lent t′ (at + 1) → t′ ≡ tablesAfter w lent
         done-tables t′ e all =
-            all-end w n total lent (prepared .one) (prepared .size) t′ (at + 1) (stopAt 0 Spot) refl
-            all going-before (λ j a b. absurd (omega arith))
+            all-end w n total lent (prepared .one) (prepared .size) (at + 1) (stopAt 0 Spot)
+            going-before (λ j a b. absurd (omega arith)) t′ refl all
 
         -- a step
         module _
@@ -171,9 +171,9 @@ module _ (m : Simulation) (draws : List Float) (lent : Tables) where
               pub stop-tables :
                   (t′ : Tables) → AllThrough w n lent t′ (at + 1) → t′ ≡ tablesAfter w lent
               stop-tables t′ all =
-                  all-end w n total lent (prepared .one) (prepared .size) t′ (at + 1)
-                  (stopAt (suc at) q) refl all going-before
-                  (λ j a c. stop-ends w at q (h .going) fails j (omega arith))
+                  all-end w n total lent (prepared .one) (prepared .size) (at + 1)
+                  (stopAt (suc at) q) going-before
+                  (λ j a c. stop-ends w at q (h .going) fails j (omega arith)) t′ refl all
 
             -- that is finite
             module _

@@ -34,6 +34,7 @@ walkOf i = traceWalk (simulationOf (i .given)) (i .draws)
 
 -- ---- its questions
 
+-- how long the lent tables are
 abbrev pub lengths : Tables → Lengths
 lengths t =
     record {
@@ -63,8 +64,8 @@ traceQuestions i lent =
 
 -- ---- its answer
 
--- Rule 17.2: number, place and steps taken of each case; a trace is path 1, and 22 names the step
--- at which it stops, which is the last one taken
+-- Rules 8.2 and 17.2: number, place and steps taken of each case; a trace is path 1, and the step
+-- at which it stops is the last one taken
 abbrev pub answered : Traced → Tracing
 answered (Done steps) = record { number = 0; place = noPlace; steps = steps }
 answered (NonFinite step quantity) =
@@ -78,8 +79,7 @@ refused refusal = record { number = numberOf refusal; place = placeOf refusal; s
 unfoldable pub traceCall : TraceInputs → Tables → Tracing
 unfolding traceQuestions traceAnswer startOf scheduleOf
 traceCall i lent =
-    onceAsked (firstNo (traceQuestions i lent)) refused
-    (answered (traceAnswer (walkOf i)))
+    onceAsked (firstNo (traceQuestions i lent)) refused (answered (traceAnswer (walkOf i)))
 
 -- Rule 16.2: its tables after it
 unfoldable pub traceTables : TraceInputs → Tables → Tables

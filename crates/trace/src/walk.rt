@@ -92,14 +92,11 @@ pub fn walk(
         let g = draws::take_draw(draws, at);
         let next = scheme::step(kernel, raw, s, g, rates);
         let taken = at + 1;
-        match scheme::ensure_finite(next) {
-            Finiteness::NonFinite(quantity) => {
-                return Traced::NonFinite {
-                    step: taken as u64,
-                    quantity: quantity,
-                };
-            }
-            Finiteness::Finite => {}
+        if let Finiteness::NonFinite(quantity) = scheme::ensure_finite(next) {
+            return Traced::NonFinite {
+                step: taken as u64,
+                quantity: quantity,
+            };
         }
         if taken == schedule.last[segment] {
             let following = segment + 1;

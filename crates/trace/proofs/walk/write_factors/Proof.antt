@@ -44,7 +44,11 @@ loop-less c = omega arith
 
 loop-again : tie.Need-loop-again Inv-loop μ-loop
 loop-again c =
-    (omega arith, simp length-set (c .before .loop .inv .1), written-more _ _ _ (c .before .loop .factors) (c .before .loop .i) (c .before .loop .inv .2) (omega arith))
+    let now = c .before .loop in (
+      omega arith,
+      simp length-set (now .inv .1),
+      written-more _ _ _ (now .factors) (now .i) (now .inv .2) (omega arith),
+    )
 
 same-length : tie.Need-same-length Inv-loop μ-loop
 same-length c = c .before .loop .inv .1
