@@ -1,7 +1,7 @@
 // The VIX squared of the model as a quadratic form in the factors: its coefficients, and its value.
 ghost use mathlib.Core.Path.{_≡_};
-ghost use Prim.Native.Nat.{_+_, _*_, _-_, _≤_, _<_};
-ghost use lib.ListN.{length, take};
+ghost use Prim.Native.Nat.{_-_, _≤_, _<_};
+ghost use lib.ListN.{take};
 ghost use Rattle.refusal.specs.Questions.{firstNo};
 ghost use Rattle.model.specs.Inner.InUse.{kernelInUse};
 ghost use Rattle.generator_rows.specs.State.{pairsBefore};

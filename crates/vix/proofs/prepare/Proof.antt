@@ -1,7 +1,7 @@
 -- `vix::prepare` meets its contract: what its questions leave is in `proofs/Building.antt`. Assumes
 -- nothing.
 use mathlib.Core.Path.{_≡_, sym, ap, _∙_}
-use Prim.Native.Nat.{ℕ, _*_, _≤_}
+use Prim.Native.Nat.{ℕ, _*_}
 use native.Mathlib.Omega.{arith}
 use lib.ListN.{length}
 use borrow.Author.Needs.{needs}
