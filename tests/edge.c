@@ -7,8 +7,15 @@
 #include <stdlib.h>
 #include <string.h>
 
-static int checked, failures;
-static int seen[27];
+/* The refusals are numbered from 1 to this. */
+enum { LAST_REFUSAL = 26 };
+
+static int checked, failures, seen[LAST_REFUSAL + 1];
+
+/* Counts an answer by its number; one that no refusal has is seen by whoever expects another. */
+static void count(uint32_t number) {
+    if (number <= LAST_REFUSAL) seen[number]++;
+}
 
 static void expect(const char *what, int holds) {
     printf("%-68s %s\n", what, holds ? "ok" : "WRONG");
@@ -124,7 +131,7 @@ typedef struct {
 static answer answered(uint32_t number, const uint64_t *place) {
     answer a = {.number = number};
     memcpy(a.place, place, sizeof a.place);
-    if (number < 27) seen[number]++;
+    count(number);
     return a;
 }
 
@@ -237,7 +244,7 @@ static void conversion(void) {
     c = qrh_convert(decimal(true, 0, 0, 29));
     expect("-0 at scale 29 is +0.0", c.number == 0 && bits(c.value) == 0);
     c = qrh_convert(TOO_FINE);
-    seen[c.number]++;
+    count(c.number);
     expect(" 1: 1 at scale 29", c.number == 1 && c.place[0] == 0 && bits(c.value) == 0);
 }
 
@@ -328,14 +335,14 @@ static void exponentials(void) {
            x.number == 0 && x.squarings == 0 && output[0] == 1.6487212707001282);
     *output = 7;
     x = qrh_exponential(1, &large, 1, output, 1, workspace, 5);
-    seen[x.number < 27 ? x.number : 0]++;
+    count(x.number);
     expect("17: norm 2^1023", x.number == 17 && x.squarings == 0 && *output == 7);
     free(workspace), workspace = sevens(5);
     x = qrh_exponential(1, &half, 1, output, 1, workspace, 4);
     expect("16: a workspace too short",
            x.number == 16 && x.squarings == 0 && *output == 7 && untouched(workspace, 0, 5));
     x = qrh_exponential(1, &half, 1, output, 0, workspace, 5);
-    seen[x.number < 27 ? x.number : 0]++;
+    count(x.number);
     expect("26: an output too short", x.number == 26 && *output == 7);
     x = qrh_exponential(0, 0, 0, 0, 0, 0, 0);
     expect("26: dimension 0, null pointers", x.number == 26 && x.squarings == 0);
@@ -606,8 +613,8 @@ int main(void) {
     stops();
     endings();
     int missing = 0;
-    for (int number = 1; number <= 26; number++) missing += !seen[number];
-    expect("every refusal, 1 to 26, was answered", missing == 0);
+    for (int number = 1; number <= LAST_REFUSAL; number++) missing += !seen[number];
+    expect("every refusal was answered", missing == 0);
     printf("%d passed, %d failed\n", checked - failures, failures);
     return failures != 0;
 }

@@ -4,7 +4,8 @@ use crate::inputs::{Draws, dec, model, to_params, to_positive, to_schedule, wind
 use crate::optionstratlib::error::QuadraticRoughHestonError;
 use crate::optionstratlib::quadratic_rough_heston::price_vanilla_quadratic_rough_heston;
 use crate::optionstratlib::quadratic_rough_heston_vix::{
-    QuadraticRoughHestonVix, QuadraticRoughHestonVixPayoff, price_vix_quadratic_rough_heston, squarings_by_log2,
+    QuadraticRoughHestonVix, QuadraticRoughHestonVixPayoff, price_vix_quadratic_rough_heston,
+    squarings_by_log2,
 };
 use crate::optionstratlib::stand_in::OptionStyle;
 use crate::table::Table;
@@ -23,13 +24,19 @@ struct Batch<'a> {
 
 /// Segments of the same length, of so many steps in all.
 fn even(segments: usize, steps: usize) -> Schedule {
-    (0..segments).map(|_| (dec("0.001"), (steps / segments) as u32)).collect()
+    (0..segments)
+        .map(|_| (dec("0.001"), (steps / segments) as u32))
+        .collect()
 }
 
 impl<'a> Batch<'a> {
     /// So many paths of the sample with n factors, over one segment.
     fn new(n: usize, paths: usize, steps: usize, draws: &'a [f64]) -> Self {
-        Self { model: model(n), schedule: even(1, steps), draws: &draws[..paths * steps] }
+        Self {
+            model: model(n),
+            schedule: even(1, steps),
+            draws: &draws[..paths * steps],
+        }
     }
 
     fn lists(&self) -> std::slice::ChunksExact<'a, f64> {
@@ -50,7 +57,9 @@ impl<'a> Batch<'a> {
         let half = &self.draws[..self.draws.len() / 2];
         let lists: Vec<Vec<f64>> = if mirrored {
             let pairs = self.lists().take(paths.get() / 2);
-            pairs.flat_map(|list| [list.to_vec(), list.iter().map(|draw| -draw).collect()]).collect()
+            pairs
+                .flat_map(|list| [list.to_vec(), list.iter().map(|draw| -draw).collect()])
+                .collect()
         } else {
             self.lists().map(<[f64]>::to_vec).collect()
         };
@@ -64,7 +73,9 @@ impl<'a> Batch<'a> {
             |out| {
                 let strike = to_positive(call.strike);
                 let style = OptionStyle::Call;
-                match price_vanilla_quadratic_rough_heston(&params, &schedule, style, strike, paths, &lists) {
+                match price_vanilla_quadratic_rough_heston(
+                    &params, &schedule, style, strike, paths, &lists,
+                ) {
                     Ok(price) => out.extend([
                         price.price,
                         price.standard_error,
@@ -77,12 +88,31 @@ impl<'a> Batch<'a> {
             },
             |out| {
                 let price = if mirrored {
-                    qrh::mirrored(&self.model, &self.schedule, &call, paths.get(), half, &mut observations)
+                    qrh::mirrored(
+                        &self.model,
+                        &self.schedule,
+                        &call,
+                        paths.get(),
+                        half,
+                        &mut observations,
+                    )
                 } else {
-                    qrh::vanilla(&self.model, &self.schedule, &call, paths.get(), self.draws, &mut observations)
+                    qrh::vanilla(
+                        &self.model,
+                        &self.schedule,
+                        &call,
+                        paths.get(),
+                        self.draws,
+                        &mut observations,
+                    )
                 };
                 match price {
-                    Ok(price) => out.extend([price.price, price.price_error, price.spot_mean, price.spot_error]),
+                    Ok(price) => out.extend([
+                        price.price,
+                        price.price_error,
+                        price.spot_mean,
+                        price.spot_error,
+                    ]),
                     Err(Refusal::NonFinite { step, .. }) => out.push(step as f64),
                     Err(other) => panic!("{other}"),
                 }
@@ -101,12 +131,23 @@ impl<'a> Batch<'a> {
             "a step",
             self.draws.len(),
             |out| {
-                let vix = QuadraticRoughHestonVix::try_new(&params, to_positive(window()), squarings_by_log2);
+                let vix = QuadraticRoughHestonVix::try_new(
+                    &params,
+                    to_positive(window()),
+                    squarings_by_log2,
+                );
                 let vix = vix.expect("finite moments");
                 let future = QuadraticRoughHestonVixPayoff::Future;
-                let price =
-                    price_vix_quadratic_rough_heston(&params, &schedule, &vix, future, paths, &lists).expect("a price");
-                out.extend([price.price, price.standard_error, price.future, price.future_standard_error]);
+                let price = price_vix_quadratic_rough_heston(
+                    &params, &schedule, &vix, future, paths, &lists,
+                )
+                .expect("a price");
+                out.extend([
+                    price.price,
+                    price.standard_error,
+                    price.future,
+                    price.future_standard_error,
+                ]);
             },
             |out| {
                 let price = qrh::vix_batch(
@@ -120,7 +161,12 @@ impl<'a> Batch<'a> {
                     &mut observations,
                 )
                 .expect("a price");
-                out.extend([price.payoff, price.payoff_error, price.index, price.index_error]);
+                out.extend([
+                    price.payoff,
+                    price.payoff_error,
+                    price.index,
+                    price.index_error,
+                ]);
             },
         );
     }
@@ -135,34 +181,56 @@ pub fn batches(table: &mut Table) {
         batch.vix(table, format!("VIX batch, n = {n}"));
     }
     for segments in [12, 63] {
-        let batch = Batch { schedule: even(segments, STEPS), ..Batch::new(10, PATHS, STEPS, &draws) };
+        let batch = Batch {
+            schedule: even(segments, STEPS),
+            ..Batch::new(10, PATHS, STEPS, &draws)
+        };
         batch.vanilla(table, format!("vanilla batch, {segments} segments"), false);
         batch.vix(table, format!("VIX batch, {segments} segments"));
     }
     for steps in [4, 16] {
-        Batch::new(10, PATHS, steps, &draws).vanilla(table, format!("vanilla batch, {steps} steps"), false);
+        Batch::new(10, PATHS, steps, &draws).vanilla(
+            table,
+            format!("vanilla batch, {steps} steps"),
+            false,
+        );
     }
     for paths in [3, 6] {
-        Batch::new(10, paths, STEPS, &draws).vanilla(table, format!("vanilla batch, {paths} paths"), false);
+        Batch::new(10, paths, STEPS, &draws).vanilla(
+            table,
+            format!("vanilla batch, {paths} paths"),
+            false,
+        );
     }
     guesses(table, &draws);
     // The very last step is the first that is not finite.
     draws[PATHS * STEPS - 1] = f64::INFINITY;
-    Batch::new(10, PATHS, STEPS, &draws).vanilla(table, "vanilla batch, stops at its last step", false);
+    Batch::new(10, PATHS, STEPS, &draws).vanilla(
+        table,
+        "vanilla batch, stops at its last step",
+        false,
+    );
 }
 
-/// Batches whose variances have roots that are guessed right, and batches where a guess is wrong (`near_root` of the
-/// crate numeric; oracle/src/guess.rs finds such numbers), so that four paths side by side are walked again one by one.
+/// Batches whose variances have roots that are guessed right, and batches where a guess is wrong
+/// (`near_root` of the crate numeric; oracle/src/guess.rs finds such numbers), so that four paths
+/// side by side are walked again one by one.
 fn guesses(table: &mut Table, draws: &[f64]) {
     // With a = 0 every variance is c.
-    for (name, c) in [("roots guessed right", "0.007283343"), ("first root guessed wrong", "0.007283342")] {
+    for (name, c) in [
+        ("roots guessed right", "0.007283343"),
+        ("first root guessed wrong", "0.007283342"),
+    ] {
         let mut batch = Batch::new(10, PATHS, STEPS, draws);
         (batch.model.a, batch.model.c) = (dec("0"), dec(c));
         batch.vanilla(table, format!("vanilla batch, {name}"), false);
     }
-    // In one path of four the last root but no other is guessed wrong: that of a number just above 0.0625.
+    // In one path of four the last root but no other is guessed wrong: that of a number just above
+    // 0.0625.
     let mut late = vec![0.0; PATHS * STEPS];
-    late.chunks_exact_mut(STEPS).step_by(4).for_each(|list| list[STEPS - 2] = 0.00001);
+    late.chunks_exact_mut(STEPS)
+        .step_by(4)
+        .for_each(|list| list[STEPS - 2] = 0.00001);
     let mut batch = Batch::new(10, PATHS, STEPS, &late);
     (batch.model.b, batch.model.c) = (dec("0"), dec("0.0625"));
     batch.model.factors = vec![dec("0"); 10];

@@ -64,8 +64,20 @@ fn kernel(n: usize) -> (Vec<f64>, Vec<f64>) {
     match n {
         1 => (vec![0.4956836642457065], vec![1.204470571845352]),
         5 => (
-            vec![0.1367818908523166, 0.2603853852660179, 0.4956836642457065, 0.9436101597984582, 1.796307197312654],
-            vec![0.04817882287381407, 0.2408941143690704, 1.204470571845352, 6.022352859226759, 30.111764296133785],
+            vec![
+                0.1367818908523166,
+                0.2603853852660179,
+                0.4956836642457065,
+                0.9436101597984582,
+                1.796307197312654,
+            ],
+            vec![
+                0.04817882287381407,
+                0.2408941143690704,
+                1.204470571845352,
+                6.022352859226759,
+                30.111764296133785,
+            ],
         ),
         _ => (
             vec![
@@ -125,14 +137,21 @@ pub fn to_params(model: &Model) -> QuadraticRoughHestonParams {
         to_rust(model.lambda),
         to_rust(model.eta),
         QuadraticRoughHestonKernel::from_tables(&model.weights, &model.discounts),
-        model.factors.iter().map(|factor| to_rust(*factor)).collect(),
+        model
+            .factors
+            .iter()
+            .map(|factor| to_rust(*factor))
+            .collect(),
         to_positive(model.spot),
     )
     .expect("sensible parameters")
 }
 
 pub fn to_schedule(schedule: &Schedule) -> RustSchedule {
-    let segments: Vec<_> =
-        schedule.segments.iter().map(|segment| (to_rust(segment.dt), segment.steps as usize)).collect();
+    let segments: Vec<_> = schedule
+        .segments
+        .iter()
+        .map(|segment| (to_rust(segment.dt), segment.steps as usize))
+        .collect();
     RustSchedule::from_segments(&segments).expect("a sensible schedule")
 }

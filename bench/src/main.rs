@@ -1,10 +1,11 @@
-//! Times every call of the core beside the Rust that it ports: one process, the same inputs, medians of interleaved
-//! rounds. Compares the bits of the answers too. Writes the table of docs/PERFORMANCE.md, unless given `--dry`, or
-//! `--only TEXT`, which takes the rows whose name contains the text.
+//! Times every call of the core beside the Rust that it ports: one process, the same inputs,
+//! medians of interleaved rounds. Compares the bits of the answers too. Writes the table of
+//! docs/PERFORMANCE.md, unless given `--dry`, or `--only TEXT`, which takes the rows whose name
+//! contains the text.
 //!
-//! The Rust is the copy under oracle/ (its licence is in NOTICE). Its parameters, its schedule and its lists of draws
-//! are made outside the timed part, and it keeps no observations; the core does all of its work inside the call,
-//! questions, conversions and observations included.
+//! The Rust is the copy under oracle/ (its licence is in NOTICE). Its parameters, its schedule and
+//! its lists of draws are made outside the timed part, and it keeps no observations; the core does
+//! all of its work inside the call, questions, conversions and observations included.
 
 mod batches;
 mod inputs;
@@ -19,7 +20,9 @@ use optionstratlib::decimal::decimal_to_f64;
 use optionstratlib::quadratic_rough_heston::{
     QuadraticRoughHestonParams, QuadraticRoughHestonPath, Schedule as RustSchedule, Walk,
 };
-use optionstratlib::quadratic_rough_heston_vix::{Matrix, QuadraticRoughHestonVix, squarings_by_log2};
+use optionstratlib::quadratic_rough_heston_vix::{
+    Matrix, QuadraticRoughHestonVix, squarings_by_log2,
+};
 use qrh::{Decimal, Schedule, Tables, workspace_length};
 use std::process::ExitCode;
 use table::Table;
@@ -44,7 +47,8 @@ fn conversions(table: &mut Table) {
         let mut decimal = || {
             let coefficient = draws.coefficient(sizes);
             let scale = draws.within(scales) as u8;
-            Decimal::from_parts(draws.within((0, 1)) == 1, coefficient, scale).expect("at most 96 bits")
+            Decimal::from_parts(draws.within((0, 1)) == 1, coefficient, scale)
+                .expect("at most 96 bits")
         };
         let ours: Vec<Decimal> = (0..COUNT).map(|_| decimal()).collect();
         let theirs: Vec<_> = ours.iter().map(|d| to_rust(*d)).collect();
@@ -52,7 +56,13 @@ fn conversions(table: &mut Table) {
             name,
             "a Decimal",
             COUNT,
-            |out| out.extend(theirs.iter().map(|d| decimal_to_f64(*d).unwrap_or(f64::NAN))),
+            |out| {
+                out.extend(
+                    theirs
+                        .iter()
+                        .map(|d| decimal_to_f64(*d).unwrap_or(f64::NAN)),
+                )
+            },
             |out| out.extend(ours.iter().map(|d| qrh::convert(*d).unwrap_or(f64::NAN))),
         );
     }
@@ -81,8 +91,13 @@ fn roots(table: &mut Table) {
     );
 }
 
-/// The Rust's trace, into tables reserved as the library reserves them: the copy under oracle/ lets them grow.
-fn rust_trace(params: &QuadraticRoughHestonParams, schedule: &RustSchedule, draws: &[f64]) -> QuadraticRoughHestonPath {
+/// The Rust's trace, into tables reserved as the library reserves them: the copy under oracle/ lets
+/// them grow.
+fn rust_trace(
+    params: &QuadraticRoughHestonParams,
+    schedule: &RustSchedule,
+    draws: &[f64],
+) -> QuadraticRoughHestonPath {
     let (points, n) = (draws.len() + 1, params.kernel().factors());
     let table = || Vec::with_capacity(points);
     let mut path = QuadraticRoughHestonPath {
@@ -101,7 +116,11 @@ fn rust_trace(params: &QuadraticRoughHestonParams, schedule: &RustSchedule, draw
     record(&walk);
     for segment in &schedule.segments {
         for to in segment.first_step..=segment.last_step {
-            assert!(walk.apply(segment.sqrt_dt * draws[to - 1], segment.dt, to).is_ok(), "a finite step");
+            assert!(
+                walk.apply(segment.sqrt_dt * draws[to - 1], segment.dt, to)
+                    .is_ok(),
+                "a finite step"
+            );
             record(&walk);
         }
     }
@@ -117,17 +136,28 @@ fn traces(table: &mut Table) {
         let model = model(n);
         let params = to_params(&model);
         let mut spots = vec![0.0; steps + 1];
-        let (mut variances, mut z, mut factors) = (spots.clone(), spots.clone(), vec![0.0; (steps + 1) * n]);
+        let (mut variances, mut z, mut factors) =
+            (spots.clone(), spots.clone(), vec![0.0; (steps + 1) * n]);
         table.compare(
             format!("trace, n = {n}"),
             "a step",
             steps,
             |out| {
                 let path = rust_trace(&params, &rust_schedule, &draws);
-                out.extend([path.spot[steps], path.variance[steps], path.z[steps], path.factors[steps * n]]);
+                out.extend([
+                    path.spot[steps],
+                    path.variance[steps],
+                    path.z[steps],
+                    path.factors[steps * n],
+                ]);
             },
             |out| {
-                let tables = Tables { spots: &mut spots, variances: &mut variances, z: &mut z, factors: &mut factors };
+                let tables = Tables {
+                    spots: &mut spots,
+                    variances: &mut variances,
+                    z: &mut z,
+                    factors: &mut factors,
+                };
                 qrh::trace(&model, &schedule, &draws, tables).expect("a path");
                 out.extend([spots[steps], variances[steps], z[steps], factors[steps * n]]);
             },
@@ -138,17 +168,21 @@ fn traces(table: &mut Table) {
 /// The dimension of ten factors.
 const WHOLE: usize = 67;
 
-/// The last rows and columns of the matrix of ten factors: such a block takes as many squarings as the whole.
+/// The last rows and columns of the matrix of ten factors: such a block takes as many squarings as
+/// the whole.
 fn last_block(matrix: &[f64], dimension: usize) -> Vec<f64> {
     let rows = matrix.chunks_exact(WHOLE).skip(WHOLE - dimension);
-    rows.flat_map(|row| row[WHOLE - dimension..].to_vec()).collect()
+    rows.flat_map(|row| row[WHOLE - dimension..].to_vec())
+        .collect()
 }
 
 fn exponentials(table: &mut Table) {
     let model = model(10);
     let params = to_params(&model);
     let delta = qrh::convert(window()).expect("a window");
-    let generator = QuadraticRoughHestonVix::generator(&params, delta).expect("a generator").entries;
+    let generator = QuadraticRoughHestonVix::generator(&params, delta)
+        .expect("a generator")
+        .entries;
     let mut output = vec![0.0; generator.len()];
     let mut workspace = vec![0.0; workspace_length(10)];
     for dimension in [4, 7, 12, 20, 33, WHOLE] {
@@ -160,7 +194,10 @@ fn exponentials(table: &mut Table) {
             1,
             |out| {
                 let matrix = Matrix::from_entries(dimension, &input);
-                let exponential = matrix.exponential(squarings_by_log2).expect("memory").expect("a finite norm");
+                let exponential = matrix
+                    .exponential(squarings_by_log2)
+                    .expect("memory")
+                    .expect("a finite norm");
                 out.extend_from_slice(&exponential.entries);
             },
             |out| {
@@ -170,16 +207,27 @@ fn exponentials(table: &mut Table) {
             },
         );
     }
-    let factors: Vec<_> = model.factors.iter().map(|factor| to_rust(*factor)).collect();
+    let factors: Vec<_> = model
+        .factors
+        .iter()
+        .map(|factor| to_rust(*factor))
+        .collect();
     table.compare(
         "VIX evaluation, n = 10",
         "a call",
         1,
         |out| {
-            let vix = QuadraticRoughHestonVix::try_new(&params, to_positive(window()), squarings_by_log2);
+            let vix =
+                QuadraticRoughHestonVix::try_new(&params, to_positive(window()), squarings_by_log2);
             out.push(vix.and_then(|vix| vix.at(&factors)).expect("an index"));
         },
-        |out| out.push(qrh::vix(&model, window(), &model.factors, &mut workspace).expect("an index").index),
+        |out| {
+            out.push(
+                qrh::vix(&model, window(), &model.factors, &mut workspace)
+                    .expect("an index")
+                    .index,
+            )
+        },
     );
 }
 

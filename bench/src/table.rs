@@ -41,7 +41,11 @@ struct Side<F> {
 
 impl<F: FnMut(&mut Vec<f64>)> Side<F> {
     fn new(pass: F) -> Self {
-        Self { pass, out: Vec::new(), times: Vec::new() }
+        Self {
+            pass,
+            out: Vec::new(),
+            times: Vec::new(),
+        }
     }
 
     /// The nanoseconds of a pass, over several.
@@ -68,8 +72,15 @@ impl<F: FnMut(&mut Vec<f64>)> Side<F> {
 impl Table {
     /// Of the rows whose names contain `only`.
     pub fn new(only: String) -> Self {
-        println!("{:<40} {:>12} {:>12} {:>7}", "nanoseconds", "Rust", "core", "ratio");
-        Self { only, rows: Vec::new(), differing: 0 }
+        println!(
+            "{:<40} {:>12} {:>12} {:>7}",
+            "nanoseconds", "Rust", "core", "ratio"
+        );
+        Self {
+            only,
+            rows: Vec::new(),
+            differing: 0,
+        }
     }
 
     /// Times two passes of `count` units each, in turn, and compares what they leave.
@@ -105,24 +116,47 @@ impl Table {
             self.differing += 1;
         }
         let units = count as f64;
-        let row = Row { name, per, rust: median(rust.times) / units, core: median(core.times) / units };
+        let row = Row {
+            name,
+            per,
+            rust: median(rust.times) / units,
+            core: median(core.times) / units,
+        };
         let (rust, core) = (written(row.rust), written(row.core));
-        println!("{:<40} {rust:>12} {core:>12} {:>7.2}   {}", row.name, row.core / row.rust, row.per);
+        println!(
+            "{:<40} {rust:>12} {core:>12} {:>7.2}   {}",
+            row.name,
+            row.core / row.rust,
+            row.per
+        );
         self.rows.push(row);
     }
 
     /// Puts the table between its two marks in a file.
     pub fn write(&self, path: &str) {
-        let text = fs::read_to_string(path).expect("docs/PERFORMANCE.md, from the repository's root");
+        let text =
+            fs::read_to_string(path).expect("docs/PERFORMANCE.md, from the repository's root");
         let (before, rest) = text.split_once(BEGIN).expect("the first mark");
         let (_, after) = rest.split_once(END).expect("the second mark");
-        let mut table = String::from("| call | Rust, ns | core, ns | ratio | for |\n|---|---:|---:|---:|---|\n");
-        for Row { name, per, rust, core } in &self.rows {
+        let mut table = String::from(
+            "| call | Rust, ns | core, ns | ratio | for |\n|---|---:|---:|---:|---|\n",
+        );
+        for Row {
+            name,
+            per,
+            rust,
+            core,
+        } in &self.rows
+        {
             let ratio = core / rust;
             let (rust, core) = (written(*rust), written(*core));
             writeln!(table, "| {name} | {rust} | {core} | {ratio:.2} | {per} |").expect("a string");
         }
-        fs::write(path, format!("{before}{BEGIN}\n{table}\nOn {}.\n{END}{after}", machine())).expect("the file");
+        fs::write(
+            path,
+            format!("{before}{BEGIN}\n{table}\nOn {}.\n{END}{after}", machine()),
+        )
+        .expect("the file");
         println!("{path} has the table");
     }
 }

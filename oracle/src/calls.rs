@@ -4,8 +4,7 @@
 //! asserted, in every build but those of tests/planted.sh.
 
 use crate::edge::{
-    self, ConvertAnswer, ExponentialAnswer, GivenFactors, ModelInputs, ScheduleInputs, TraceAnswer,
-    VanillaAnswer, VixAnswer, VixBatchAnswer, VixPayoff,
+    self, Conversion, Estimate, Exponentiation, Factors, Tracing, VixEstimate, VixPayoff, VixValue,
 };
 use crate::optionstratlib::decimal::decimal_to_f64;
 use crate::optionstratlib::error::QuadraticRoughHestonError;
@@ -49,7 +48,7 @@ fn style(put: bool) -> OptionStyle {
 }
 
 /// The Rust's parameters, of inputs that passed the door.
-fn params(weights: &[f64], discounts: &[f64], model: &ModelInputs) -> QuadraticRoughHestonParams {
+fn params(weights: &[f64], discounts: &[f64], model: &edge::Model) -> QuadraticRoughHestonParams {
     QuadraticRoughHestonParams::try_new(
         decimal(model.a),
         decimal(model.b),
@@ -67,7 +66,7 @@ fn params(weights: &[f64], discounts: &[f64], model: &ModelInputs) -> QuadraticR
 }
 
 /// The Rust's schedule, of inputs that passed the door.
-fn lay(given: &ScheduleInputs) -> Schedule {
+fn lay(given: &edge::Schedule) -> Schedule {
     let segments: Vec<(Decimal, usize)> = given.segments[..given.count]
         .iter()
         .map(|segment| (decimal(segment.dt), segment.steps as usize))
@@ -109,9 +108,9 @@ fn assert_stop(taken: &Taken, error: &QuadraticRoughHestonError) {
 
 /// Convert a Decimal.
 #[must_use]
-pub fn convert(d: edge::Decimal) -> ConvertAnswer {
+pub fn convert(d: edge::Decimal) -> Conversion {
     match questions::scale(d) {
-        Err(No { number, place }) => ConvertAnswer {
+        Err(No { number, place }) => Conversion {
             number,
             place,
             ..Default::default()
@@ -123,7 +122,7 @@ pub fn convert(d: edge::Decimal) -> ConvertAnswer {
                 format!("{}e-{}", decimal(d).mantissa(), d.scale).parse(),
                 Ok(value)
             );
-            ConvertAnswer {
+            Conversion {
                 value,
                 ..Default::default()
             }
@@ -142,20 +141,20 @@ pub fn sqrt(value: f64) -> f64 {
 pub fn trace(
     weights: &[f64],
     discounts: &[f64],
-    model: &ModelInputs,
-    given: &ScheduleInputs,
+    model: &edge::Model,
+    given: &edge::Schedule,
     draws: &[f64],
     spots: &mut [f64],
     variances: &mut [f64],
     z: &mut [f64],
     factors: &mut [f64],
-) -> TraceAnswer {
+) -> Tracing {
     let lengths = [spots.len(), variances.len(), z.len(), factors.len()];
     let asked = questions::trace(weights, discounts, model, given, draws.len(), lengths);
     let ends = match asked {
         Ok(ends) => ends,
         Err(No { number, place }) => {
-            return TraceAnswer {
+            return Tracing {
                 number,
                 place,
                 steps: 0,
@@ -193,7 +192,7 @@ pub fn trace(
     let (number, place) = taken
         .refused
         .map_or((0, [0; 4]), |no| (no.number, no.place));
-    TraceAnswer {
+    Tracing {
         number,
         place,
         steps: taken.steps,
@@ -258,15 +257,15 @@ pub fn vanilla(
     mirrored: bool,
     weights: &[f64],
     discounts: &[f64],
-    model: &ModelInputs,
-    given: &ScheduleInputs,
+    model: &edge::Model,
+    given: &edge::Schedule,
     put: bool,
     strike: edge::Decimal,
     paths: usize,
     draws: &[f64],
     observations: &mut [f64],
-) -> VanillaAnswer {
-    let refuse = |No { number, place }: No, steps: u64| VanillaAnswer {
+) -> Estimate {
+    let refuse = |No { number, place }: No, steps: u64| Estimate {
         number,
         place,
         steps,
@@ -314,7 +313,7 @@ pub fn vanilla(
     if let Err(no) = questions::estimates(reported) {
         return refuse(no, taken.steps);
     }
-    VanillaAnswer {
+    Estimate {
         number: 0,
         place: [0; 4],
         price: reported[0],
@@ -387,7 +386,7 @@ fn build(
 pub fn vix_norm(
     weights: &[f64],
     discounts: &[f64],
-    model: &ModelInputs,
+    model: &edge::Model,
     window: edge::Decimal,
 ) -> f64 {
     let params = params(weights, discounts, model);
@@ -408,11 +407,11 @@ pub fn matrix_norm(dimension: usize, input: &[f64]) -> f64 {
 pub fn vix(
     weights: &[f64],
     discounts: &[f64],
-    model: &ModelInputs,
+    model: &edge::Model,
     window: edge::Decimal,
-    given: &GivenFactors,
+    given: &Factors,
     workspace: &[f64],
-) -> VixAnswer {
+) -> VixValue {
     let answer = || {
         questions::vix_before_17(weights, discounts, model, window, workspace.len())?;
         let vix = build(&params(weights, discounts, model), window)?;
@@ -435,13 +434,13 @@ pub fn vix(
         }
     };
     match answer() {
-        Ok((squared, index)) => VixAnswer {
+        Ok((squared, index)) => VixValue {
             number: 0,
             place: [0; 4],
             squared,
             index,
         },
-        Err(No { number, place }) => VixAnswer {
+        Err(No { number, place }) => VixValue {
             number,
             place,
             ..Default::default()
@@ -454,16 +453,16 @@ pub fn vix(
 pub fn vix_batch(
     weights: &[f64],
     discounts: &[f64],
-    model: &ModelInputs,
-    given: &ScheduleInputs,
+    model: &edge::Model,
+    given: &edge::Schedule,
     window: edge::Decimal,
     payoff: &VixPayoff,
     paths: usize,
     draws: &[f64],
     workspace: &[f64],
     observations: &mut [f64],
-) -> VixBatchAnswer {
-    let refuse = |No { number, place }: No, steps: u64| VixBatchAnswer {
+) -> VixEstimate {
+    let refuse = |No { number, place }: No, steps: u64| VixEstimate {
         number,
         place,
         steps,
@@ -528,7 +527,7 @@ pub fn vix_batch(
     if let Err(no) = questions::estimates(reported) {
         return refuse(no, taken.steps);
     }
-    VixBatchAnswer {
+    VixEstimate {
         number: 0,
         place: [0; 4],
         payoff: reported[0],
@@ -546,7 +545,7 @@ pub fn exponential(
     input: &[f64],
     output: &mut [f64],
     workspace: &[f64],
-) -> ExponentialAnswer {
+) -> Exponentiation {
     let mut answer = || {
         questions::matrix(dimension, input.len(), output.len(), workspace.len())?;
         let matrix = Matrix::from_entries(dimension, input);
@@ -555,12 +554,12 @@ pub fn exponential(
         Ok(questions::squarings(matrix.norm_1()))
     };
     match answer() {
-        Ok(squarings) => ExponentialAnswer {
+        Ok(squarings) => Exponentiation {
             number: 0,
             place: [0; 4],
             squarings,
         },
-        Err(No { number, place }) => ExponentialAnswer {
+        Err(No { number, place }) => Exponentiation {
             number,
             place,
             squarings: 0,

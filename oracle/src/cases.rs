@@ -2,7 +2,7 @@
 //! leaves in the tables lent to it.
 
 use crate::calls::{self, same};
-use crate::edge::{Decimal, GivenFactors, ModelInputs, ScheduleInputs, VixPayoff};
+use crate::edge::{self, Decimal, Factors, Schedule, VixPayoff};
 use crate::questions;
 
 /// The calls, by the names of their exports without `qrh_`, in the order of their numbers.
@@ -22,7 +22,7 @@ pub const CALLS: [&str; 8] = [
 pub struct Model {
     pub weights: Vec<f64>,
     pub discounts: Vec<f64>,
-    pub inputs: ModelInputs,
+    pub inputs: edge::Model,
 }
 
 /// One call. Lent tables are given by their lengths: `lent` fills them.
@@ -32,7 +32,7 @@ pub enum Case {
     Sqrt(f64),
     Trace {
         model: Model,
-        schedule: ScheduleInputs,
+        schedule: Schedule,
         draws: Vec<f64>,
         /// Of spots, variances, z, factors.
         tables: [usize; 4],
@@ -41,7 +41,7 @@ pub enum Case {
     Vanilla {
         mirrored: bool,
         model: Model,
-        schedule: ScheduleInputs,
+        schedule: Schedule,
         put: bool,
         strike: Decimal,
         paths: usize,
@@ -51,12 +51,12 @@ pub enum Case {
     Vix {
         model: Model,
         window: Decimal,
-        given: GivenFactors,
+        given: Factors,
         workspace: usize,
     },
     VixBatch {
         model: Model,
-        schedule: ScheduleInputs,
+        schedule: Schedule,
         window: Decimal,
         payoff: VixPayoff,
         paths: usize,

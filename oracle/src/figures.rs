@@ -1,7 +1,7 @@
 //! The checked figures of document 01 as cases, for the recorded list.
 
 use crate::cases::{Case, Model};
-use crate::edge::{Decimal, GivenFactors, ModelInputs, ScheduleInputs, Segment};
+use crate::edge::{self, Decimal, Factors, Schedule, Segment};
 use crate::generator::decimal;
 
 /// A whole number.
@@ -22,7 +22,7 @@ pub fn model() -> Model {
     Model {
         weights: vec![1.0],
         discounts: vec![4.0],
-        inputs: ModelInputs {
+        inputs: edge::Model {
             a: whole(1),
             b: whole(0),
             c: whole(4),
@@ -37,8 +37,8 @@ pub fn model() -> Model {
 
 /// The schedule of the given segments.
 #[must_use]
-pub fn schedule(segments: &[(Decimal, u32)]) -> ScheduleInputs {
-    let mut schedule = ScheduleInputs {
+pub fn schedule(segments: &[(Decimal, u32)]) -> Schedule {
+    let mut schedule = Schedule {
         count: segments.len(),
         ..Default::default()
     };
@@ -51,7 +51,7 @@ pub fn schedule(segments: &[(Decimal, u32)]) -> ScheduleInputs {
     schedule
 }
 
-fn trace(model: Model, schedule: ScheduleInputs, draws: &[f64]) -> Case {
+fn trace(model: Model, schedule: Schedule, draws: &[f64]) -> Case {
     let points = draws.len() + 1;
     let n = model.weights.len();
     Case::Trace {
@@ -120,7 +120,7 @@ pub fn figures() -> Vec<Case> {
         Case::Vix {
             model: no_feedback,
             window: quarter(),
-            given: GivenFactors {
+            given: Factors {
                 count: 1,
                 ..Default::default()
             },

@@ -4,7 +4,7 @@
 mod fours;
 
 use crate::cases::{Case, Model};
-use crate::edge::{Decimal, GivenFactors, ModelInputs, ScheduleInputs, Segment, VixPayoff};
+use crate::edge::{self, Decimal, Factors, Schedule, Segment, VixPayoff};
 use crate::questions::dimension;
 
 /// How large cases may become.
@@ -282,7 +282,7 @@ impl Source {
     /// The model of document 01's checked figures.
     fn figures(&mut self) -> Model {
         let whole = |value| decimal(false, value, 0);
-        let mut inputs = ModelInputs {
+        let mut inputs = edge::Model {
             a: whole(1),
             b: whole(0),
             c: whole(4),
@@ -309,7 +309,7 @@ impl Source {
         let discounts = (0..n)
             .map(|i| self.entry(wild, 0.2 * 3.0_f64.powi(i as i32)))
             .collect();
-        let mut inputs = ModelInputs {
+        let mut inputs = edge::Model {
             a: if self.one_in(8) {
                 self.zero()
             } else {
@@ -435,8 +435,8 @@ impl Source {
         }
     }
 
-    fn schedule(&mut self, size: Size) -> ScheduleInputs {
-        let mut schedule = ScheduleInputs::default();
+    fn schedule(&mut self, size: Size) -> Schedule {
+        let mut schedule = Schedule::default();
         for segment in &mut schedule.segments {
             // What lies past the count is never read.
             *segment = Segment {
@@ -467,7 +467,7 @@ impl Source {
         schedule
     }
 
-    fn damage_schedule(&mut self, schedule: &mut ScheduleInputs) {
+    fn damage_schedule(&mut self, schedule: &mut Schedule) {
         let i = self.below(schedule.count.clamp(1, 64) as u64) as usize;
         let total: u32 = schedule.segments[..schedule.count.min(64)]
             .iter()
@@ -495,7 +495,7 @@ impl Source {
         }
     }
 
-    fn total(schedule: &ScheduleInputs) -> usize {
+    fn total(schedule: &Schedule) -> usize {
         schedule.segments[..schedule.count]
             .iter()
             .map(|segment| segment.steps as usize)
@@ -505,7 +505,7 @@ impl Source {
     // Draws.
 
     /// Draws of `lists` paths of the schedule; some stop a path at a chosen step.
-    fn draws(&mut self, schedule: &ScheduleInputs, lists: usize) -> Vec<f64> {
+    fn draws(&mut self, schedule: &Schedule, lists: usize) -> Vec<f64> {
         let total = Self::total(schedule);
         let mut draws: Vec<f64> = match self.below(20) {
             0 => (0..lists * total)
@@ -539,7 +539,7 @@ impl Source {
     }
 
     /// A step, from 0: the first, the last, any, or the first or the last of a segment.
-    fn place(&mut self, schedule: &ScheduleInputs, total: usize) -> usize {
+    fn place(&mut self, schedule: &Schedule, total: usize) -> usize {
         match self.below(5) {
             0 => 0,
             1 => total - 1,
@@ -557,7 +557,7 @@ impl Source {
     }
 
     /// Puts the stop at z, or lets a path end at a huge spot, by the sizes of spot, eta and a.
-    fn steer(&mut self, model: &mut Model, schedule: &ScheduleInputs, draws: &mut [f64]) {
+    fn steer(&mut self, model: &mut Model, schedule: &Schedule, draws: &mut [f64]) {
         let total = Self::total(schedule);
         let inputs = &mut model.inputs;
         match self.below(16) {
@@ -834,7 +834,7 @@ impl Source {
                 model.weights = vec![1.0];
                 model.discounts = vec![pow2(LOW)];
                 let level = rounded(1e10, 3 + self.below(6) as u8);
-                *inputs = ModelInputs {
+                *inputs = edge::Model {
                     a: decimal(false, 1, self.below(6) as u8),
                     b: level,
                     c: decimal(false, 1, 28),
@@ -850,8 +850,8 @@ impl Source {
         model
     }
 
-    fn given(&mut self, model: &Model) -> GivenFactors {
-        let mut given = GivenFactors {
+    fn given(&mut self, model: &Model) -> Factors {
+        let mut given = Factors {
             count: model.weights.len(),
             factors: model.inputs.factors,
         };

@@ -2,7 +2,6 @@
 
 pub mod calls;
 pub mod cases;
-pub mod edge;
 pub mod figures;
 pub mod generator;
 pub mod guess;
@@ -10,3 +9,6 @@ pub mod guess;
 mod optionstratlib;
 pub mod questions;
 pub mod records;
+
+/// What crosses the C edge.
+pub use qrh_sys as edge;

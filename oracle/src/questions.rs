@@ -3,7 +3,7 @@
 //! refusals are others; what it needs of the values (a state after a step, an exponential, an
 //! estimate) is handed to it.
 
-use crate::edge::{Decimal, GivenFactors, ModelInputs, ScheduleInputs, VixPayoff};
+use crate::edge::{self, Decimal, Factors, Schedule, VixPayoff};
 
 /// A No: the number and the place, 0 where there is none.
 #[derive(Debug, Clone, Copy, PartialEq, Eq)]
@@ -70,7 +70,7 @@ fn factors(n: usize, count: usize, factors: &[Decimal; 10]) -> Asked<()> {
 }
 
 /// 5 to 10, then 1 of a, b, c, lambda, eta, factors, spot.
-fn parameters(n: usize, model: &ModelInputs) -> Asked<()> {
+fn parameters(n: usize, model: &edge::Model) -> Asked<()> {
     ask(at_least_zero(model.a), 5)?;
     ask(above_zero(model.c), 6)?;
     ask(above_zero(model.lambda), 7)?;
@@ -92,7 +92,7 @@ fn parameters(n: usize, model: &ModelInputs) -> Asked<()> {
 
 /// 11, 12, then segment by segment 13, 14 and 1 of its dt. A Yes gives the last step of each
 /// segment.
-fn schedule(schedule: &ScheduleInputs) -> Asked<Vec<u64>> {
+fn schedule(schedule: &Schedule) -> Asked<Vec<u64>> {
     ask(schedule.count > 0, 11)?;
     ask(schedule.count <= 64, 12)?;
     let mut ends = Vec::new();
@@ -154,8 +154,8 @@ fn batch(paths: usize, mirrored: bool, ends: &[u64], draws: usize, table: usize)
 pub fn trace(
     weights: &[f64],
     discounts: &[f64],
-    model: &ModelInputs,
-    given: &ScheduleInputs,
+    model: &edge::Model,
+    given: &Schedule,
     draws: usize,
     tables: [usize; 4],
 ) -> Asked<Vec<u64>> {
@@ -177,8 +177,8 @@ pub fn trace(
 pub fn vanilla(
     weights: &[f64],
     discounts: &[f64],
-    model: &ModelInputs,
-    given: &ScheduleInputs,
+    model: &edge::Model,
+    given: &Schedule,
     struck: Decimal,
     mirrored: bool,
     paths: usize,
@@ -197,7 +197,7 @@ pub fn vanilla(
 pub fn vix_before_17(
     weights: &[f64],
     discounts: &[f64],
-    model: &ModelInputs,
+    model: &edge::Model,
     over: Decimal,
     workspace: usize,
 ) -> Asked<()> {
@@ -207,7 +207,7 @@ pub fn vix_before_17(
 }
 
 /// What a VIX evaluation asks after 17 and before 23.
-pub fn vix_after_17(n: usize, given: &GivenFactors) -> Asked<()> {
+pub fn vix_after_17(n: usize, given: &Factors) -> Asked<()> {
     factors(n, given.count, &given.factors)
 }
 
@@ -215,8 +215,8 @@ pub fn vix_after_17(n: usize, given: &GivenFactors) -> Asked<()> {
 pub fn vix_batch_before_17(
     weights: &[f64],
     discounts: &[f64],
-    model: &ModelInputs,
-    given: &ScheduleInputs,
+    model: &edge::Model,
+    given: &Schedule,
     over: Decimal,
     workspace: usize,
 ) -> Asked<Vec<u64>> {
@@ -330,6 +330,7 @@ pub fn batch_steps(
 }
 
 /// The tables of a trace.
+#[derive(Debug)]
 pub struct TraceTables<'a> {
     pub spots: &'a mut [f64],
     pub variances: &'a mut [f64],

@@ -1,7 +1,7 @@
 //! Recorded cases: README.md has the format. A file is a list of 64-bit words.
 
 use crate::cases::{Case, Model, Outcome, lent};
-use crate::edge::{Decimal, GivenFactors, ModelInputs, ScheduleInputs, Segment, VixPayoff};
+use crate::edge::{self, Decimal, Factors, Schedule, Segment, VixPayoff};
 
 /// The first word of a file: the bytes QRHCASE1.
 pub const MARK: u64 = u64::from_le_bytes(*b"QRHCASE1");
@@ -148,7 +148,7 @@ impl Words {
         self.factors(inputs.factor_count, &inputs.factors);
     }
 
-    fn schedule(&mut self, schedule: &ScheduleInputs) {
+    fn schedule(&mut self, schedule: &Schedule) {
         let given = if schedule.count > 64 {
             0
         } else {
@@ -365,7 +365,7 @@ impl Reader<'_> {
         Ok(Model {
             weights,
             discounts,
-            inputs: ModelInputs {
+            inputs: edge::Model {
                 a,
                 b,
                 c,
@@ -378,8 +378,8 @@ impl Reader<'_> {
         })
     }
 
-    fn schedule(&mut self) -> Result<ScheduleInputs, String> {
-        let mut schedule = ScheduleInputs {
+    fn schedule(&mut self) -> Result<Schedule, String> {
+        let mut schedule = Schedule {
             count: self.size()?,
             ..Default::default()
         };
@@ -422,7 +422,7 @@ impl Reader<'_> {
                 Case::Vix {
                     model,
                     window,
-                    given: GivenFactors { count, factors },
+                    given: Factors { count, factors },
                     workspace: self.size()?,
                 }
             }

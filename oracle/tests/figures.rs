@@ -2,9 +2,7 @@
 
 use oracle::calls;
 use oracle::cases::lent;
-use oracle::edge::{
-    Decimal, GivenFactors, ModelInputs, ScheduleInputs, Segment, VanillaAnswer, VixPayoff,
-};
+use oracle::edge::{self, Decimal, Estimate, Factors, Schedule, Segment, VixPayoff};
 use oracle::generator::decimal;
 use oracle::questions::{excluded_norm, squarings};
 
@@ -17,8 +15,8 @@ fn quarter() -> Decimal {
 }
 
 /// n = 1, a = 1, b = 0, c = 4, lambda = eta = 1, spot 100, factor 0.
-fn model() -> ModelInputs {
-    ModelInputs {
+fn model() -> edge::Model {
+    edge::Model {
         a: whole(1),
         b: whole(0),
         c: whole(4),
@@ -30,8 +28,8 @@ fn model() -> ModelInputs {
     }
 }
 
-fn schedule(segments: &[(Decimal, u32)]) -> ScheduleInputs {
-    let mut schedule = ScheduleInputs {
+fn schedule(segments: &[(Decimal, u32)]) -> Schedule {
+    let mut schedule = Schedule {
         count: segments.len(),
         ..Default::default()
     };
@@ -48,7 +46,7 @@ const WEIGHT: [f64; 1] = [1.0];
 const DISCOUNT: [f64; 1] = [4.0];
 
 /// The number, the steps and the four tables of a trace of the figures' model.
-fn trace(schedule: &ScheduleInputs, draws: &[f64]) -> (u32, u64, [Vec<f64>; 4]) {
+fn trace(schedule: &Schedule, draws: &[f64]) -> (u32, u64, [Vec<f64>; 4]) {
     let mut tables = [1, 2, 3, 4].map(|table| lent(table, draws.len() + 1));
     let [spots, variances, z, factors] = &mut tables;
     let answer = calls::trace(
@@ -65,7 +63,7 @@ fn trace(schedule: &ScheduleInputs, draws: &[f64]) -> (u32, u64, [Vec<f64>; 4]) 
     (answer.number, answer.steps, tables)
 }
 
-fn vanilla(paths: usize, draws: &[f64], observations: &mut [f64]) -> VanillaAnswer {
+fn vanilla(paths: usize, draws: &[f64], observations: &mut [f64]) -> Estimate {
     calls::vanilla(
         false,
         &WEIGHT,
@@ -139,7 +137,7 @@ fn p9_two_paths() {
     let answer = vanilla(2, &[0.5, -1.0], &mut observations);
     assert_eq!(
         answer,
-        VanillaAnswer {
+        Estimate {
             number: 0,
             place: [0; 4],
             price: 25.0,
@@ -176,7 +174,7 @@ fn p11_nilpotent() {
 fn p12_vix_without_feedback() {
     let mut model = model();
     model.a = whole(0);
-    let given = GivenFactors {
+    let given = Factors {
         count: 1,
         ..Default::default()
     };

@@ -3,7 +3,7 @@
 
 use oracle::calls;
 use oracle::cases::{CALLS, Case, Model, Outcome};
-use oracle::edge::ScheduleInputs;
+use oracle::edge::Schedule;
 use oracle::{generator, guess};
 use std::collections::{BTreeMap, BTreeSet};
 
@@ -18,7 +18,7 @@ struct Walked {
     variances: Vec<f64>,
 }
 
-fn walked(model: &Model, schedule: &ScheduleInputs, draws: &[f64]) -> Walked {
+fn walked(model: &Model, schedule: &Schedule, draws: &[f64]) -> Walked {
     let points = draws.len() + 1;
     let table = vec![0.0; points];
     let (mut spots, mut variances, mut z) = (table.clone(), table.clone(), table);

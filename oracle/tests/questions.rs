@@ -1,7 +1,7 @@
 //! The order of the questions: of any two that get a No, the earlier one gives the number.
 
 use oracle::cases::{Case, Model};
-use oracle::edge::{Decimal, GivenFactors, ScheduleInputs, VixPayoff};
+use oracle::edge::{Decimal, Factors, Schedule, VixPayoff};
 use oracle::figures::{model, quarter, schedule, whole};
 use oracle::generator::decimal;
 use oracle::questions::dimension;
@@ -10,9 +10,9 @@ use oracle::questions::dimension;
 #[derive(Clone)]
 struct Draft {
     model: Model,
-    schedule: ScheduleInputs,
+    schedule: Schedule,
     window: Decimal,
-    given: GivenFactors,
+    given: Factors,
     strike: Decimal,
     paths: usize,
     draws: Vec<f64>,
@@ -33,7 +33,7 @@ fn draft() -> Draft {
     Draft {
         schedule: schedule(&[(quarter(), 2), (decimal(false, 5, 1), 3)]),
         window: quarter(),
-        given: GivenFactors {
+        given: Factors {
             count: 2,
             factors: model.inputs.factors,
         },

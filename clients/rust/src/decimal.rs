@@ -3,7 +3,8 @@ use std::fmt;
 use std::hash::{Hash, Hasher};
 use std::str::FromStr;
 
-/// A decimal number: a sign, a coefficient of 96 bits and a scale of 0 to 255. Its value is coefficient / 10^scale.
+/// A decimal number: a sign, a coefficient of 96 bits and a scale of 0 to 255. Its value is
+/// coefficient / 10^scale.
 ///
 /// A scale above 28 is a Decimal too, but every call refuses it, unless the coefficient is zero.
 ///
@@ -16,14 +17,8 @@ use std::str::FromStr;
 /// assert_eq!(spread.to_string(), "-0.25");
 /// # Ok::<(), qrh::ParseDecimalError>(())
 /// ```
-#[repr(C)]
 #[derive(Clone, Copy, Default)]
-pub struct Decimal {
-    low: u64,
-    high: u32,
-    scale: u8,
-    negative: bool,
-}
+pub struct Decimal(qrh_sys::Decimal);
 
 impl Decimal {
     /// Zero.
@@ -35,7 +30,7 @@ impl Decimal {
     /// `digits` / 10^`scale`: `Decimal::new(-25, 2)` is -0.25.
     #[must_use]
     pub const fn new(digits: i64, scale: u8) -> Self {
-        Self { low: digits.unsigned_abs(), high: 0, scale, negative: digits < 0 }
+        Self::of(digits < 0, 0, digits.unsigned_abs(), scale)
     }
 
     /// A Decimal from its parts, or `None` where the coefficient has more than 96 bits.
@@ -44,30 +39,51 @@ impl Decimal {
         if coefficient >> 96 != 0 {
             return None;
         }
-        Some(Self { low: coefficient as u64, high: (coefficient >> 64) as u32, scale, negative })
+        Some(Self::of(
+            negative,
+            (coefficient >> 64) as u32,
+            coefficient as u64,
+            scale,
+        ))
+    }
+
+    const fn of(negative: bool, high: u32, low: u64, scale: u8) -> Self {
+        Self(qrh_sys::Decimal {
+            low,
+            high,
+            scale,
+            negative,
+        })
+    }
+
+    /// As it crosses the edge.
+    #[inline]
+    pub(crate) const fn edge(&self) -> qrh_sys::Decimal {
+        self.0
     }
 
     /// The digits, without sign and point.
     #[must_use]
     pub const fn coefficient(&self) -> u128 {
-        (self.high as u128) << 64 | self.low as u128
+        ((self.0.high as u128) << 64) | self.0.low as u128
     }
 
     /// The number of decimal places.
     #[must_use]
     pub const fn scale(&self) -> u8 {
-        self.scale
+        self.0.scale
     }
 
     /// Whether the sign is minus. Zero has a sign too, which plays no part.
     #[must_use]
     pub const fn is_negative(&self) -> bool {
-        self.negative
+        self.0.negative
     }
 
-    /// The sign, coefficient and scale without zeros at the end, so that equal values have equal parts.
+    /// The sign, coefficient and scale without zeros at the end, so that equal values have equal
+    /// parts.
     fn least(&self) -> (bool, u128, u8) {
-        let (mut coefficient, mut scale) = (self.coefficient(), self.scale);
+        let (mut coefficient, mut scale) = (self.coefficient(), self.scale());
         if coefficient == 0 {
             return (false, 0, 0);
         }
@@ -75,17 +91,8 @@ impl Decimal {
             coefficient /= 10;
             scale -= 1;
         }
-        (self.negative, coefficient, scale)
+        (self.is_negative(), coefficient, scale)
     }
-
-    /// The offsets of the fields in the order of their declaration.
-    #[cfg(test)]
-    pub(crate) const OFFSETS: [usize; 4] = [
-        std::mem::offset_of!(Self, low),
-        std::mem::offset_of!(Self, high),
-        std::mem::offset_of!(Self, scale),
-        std::mem::offset_of!(Self, negative),
-    ];
 }
 
 /// By value: 0.5 is 0.50, and a negative zero is zero.
@@ -117,11 +124,11 @@ impl From<i64> for Decimal {
 
 impl fmt::Display for Decimal {
     fn fmt(&self, f: &mut fmt::Formatter<'_>) -> fmt::Result {
-        let scale = usize::from(self.scale);
+        let scale = usize::from(self.scale());
         let digits = format!("{:0>width$}", self.coefficient(), width = scale + 1);
         let (whole, places) = digits.split_at(digits.len() - scale);
         let point = if scale == 0 { "" } else { "." };
-        f.pad_integral(!self.negative, "", &format!("{whole}{point}{places}"))
+        f.pad_integral(!self.is_negative(), "", &format!("{whole}{point}{places}"))
     }
 }
 
@@ -168,7 +175,10 @@ impl FromStr for Decimal {
         }
         let scale = u8::try_from(places.len()).map_err(|_| ParseDecimalError::TooManyPlaces)?;
         let coefficient = all().try_fold(0_u128, |so_far, byte| {
-            so_far.checked_mul(10)?.checked_add(u128::from(byte - b'0')).filter(|coefficient| coefficient >> 96 == 0)
+            so_far
+                .checked_mul(10)?
+                .checked_add(u128::from(byte - b'0'))
+                .filter(|coefficient| coefficient >> 96 == 0)
         });
         coefficient
             .and_then(|coefficient| Self::from_parts(negative, coefficient, scale))
@@ -182,26 +192,50 @@ mod tests {
 
     #[test]
     fn texts() {
-        for text in
-            ["0", "-0", "1", "-0.25", "0.001", "79228162514264337593543950335", "0.0821917808219178082191780822"]
-        {
-            assert_eq!(text.parse::<Decimal>().map(|d| d.to_string()), Ok(text.to_string()));
+        for text in [
+            "0",
+            "-0",
+            "1",
+            "-0.25",
+            "0.001",
+            "79228162514264337593543950335",
+            "0.0821917808219178082191780822",
+        ] {
+            assert_eq!(
+                text.parse::<Decimal>().map(|d| d.to_string()),
+                Ok(text.to_string())
+            );
         }
         let parsed: Decimal = "+.50".parse().expect("a number");
-        assert_eq!((parsed.coefficient(), parsed.scale(), parsed.is_negative()), (50, 2, false));
+        assert_eq!(
+            (parsed.coefficient(), parsed.scale(), parsed.is_negative()),
+            (50, 2, false)
+        );
         assert_eq!("7.".parse(), Ok(Decimal::from(7)));
         assert_eq!(format!("{:>8}", Decimal::new(-5, 1)), "    -0.5");
     }
 
     #[test]
     fn texts_of_no_decimal() {
-        for text in ["", "-", ".", "--1", "1e5", "1_000", " 1", "0x10", "1.2.3", "\u{661}"] {
-            assert_eq!(text.parse::<Decimal>(), Err(ParseDecimalError::NotANumber), "{text}");
+        for text in [
+            "", "-", ".", "--1", "1e5", "1_000", " 1", "0x10", "1.2.3", "\u{661}",
+        ] {
+            assert_eq!(
+                text.parse::<Decimal>(),
+                Err(ParseDecimalError::NotANumber),
+                "{text}"
+            );
         }
         let above = "79228162514264337593543950336";
-        assert_eq!(above.parse::<Decimal>(), Err(ParseDecimalError::TooManyDigits));
+        assert_eq!(
+            above.parse::<Decimal>(),
+            Err(ParseDecimalError::TooManyDigits)
+        );
         let long = format!("0.{}", "0".repeat(256));
-        assert_eq!(long.parse::<Decimal>(), Err(ParseDecimalError::TooManyPlaces));
+        assert_eq!(
+            long.parse::<Decimal>(),
+            Err(ParseDecimalError::TooManyPlaces)
+        );
         assert_eq!(Decimal::from_parts(false, 1 << 96, 0), None);
     }
 

@@ -1,12 +1,14 @@
-//! Index options and VIX contracts under the quadratic rough Heston model, from draws that you supply.
+//! Index options and VIX contracts under the quadratic rough Heston model, from draws that you
+//! supply.
 //!
-//! The calls are those of a core whose every function is proved to meet its contract. This crate gives them Rust's
-//! types: a [`Decimal`] from a text or from parts, a [`Model`], a [`Schedule`], payoffs, and a [`Refusal`] that says
-//! what was wrong with the input. It has no dependency but the core's static library, `libterminal.a`, which is looked
-//! for in the folder `QRH_LIB_DIR`, or else in the repository's `target/staticlib`.
+//! The calls are those of a core whose every function is proved to meet its contract. This crate
+//! gives them Rust's types: a [`Decimal`] from a text or from parts, a [`Model`], a [`Schedule`],
+//! payoffs, and a [`Refusal`] that says what was wrong with the input. It has no dependency but the
+//! core's static library, which `qrh-sys` links: it is looked for in the folder `QRH_LIB_DIR`, or
+//! else in the repository's `target/staticlib`.
 //!
-//! No call allocates: tables and workspaces are lent as slices, and [`Path`] makes the tables of a trace for you. The
-//! calls keep nothing and may run on many threads at once.
+//! No call allocates: tables and workspaces are lent as slices, and [`Path`] makes the tables of a
+//! trace for you. The calls keep nothing and may run on many threads at once.
 //!
 //! # Example
 //!
@@ -43,22 +45,16 @@
 #![warn(missing_docs)]
 
 mod decimal;
-mod edge;
 mod refusal;
 
 pub use decimal::{Decimal, ParseDecimalError};
+use qrh_sys::{FACTORS, SEGMENTS};
 pub use refusal::{KernelTable, Quantity, Refusal, Reported};
-
-/// The most factors of a model.
-const FACTORS: usize = 10;
-
-/// The most segments of a schedule.
-const SEGMENTS: usize = 64;
 
 /// The kernel tables of n weights and n discounts, the parameters and the n initial factors.
 ///
-/// variance = a × (z - b)² + c, where z is the sum of weight × factor. Nothing is checked before a call: a call asks
-/// what concerns it, and refuses.
+/// variance = a × (z - b)² + c, where z is the sum of weight × factor. Nothing is checked before a
+/// call: a call asks what concerns it, and refuses.
 #[derive(Debug, Clone, PartialEq)]
 pub struct Model {
     /// What each factor counts in z: 1 to 10 doubles from 2^-90 to 2^90.
@@ -82,15 +78,15 @@ pub struct Model {
 }
 
 impl Model {
-    fn edge(&self) -> edge::Model {
-        let edge::Factors { count, factors } = given(&self.factors);
-        edge::Model {
-            a: self.a,
-            b: self.b,
-            c: self.c,
-            lambda: self.lambda,
-            eta: self.eta,
-            spot: self.spot,
+    fn edge(&self) -> qrh_sys::Model {
+        let qrh_sys::Factors { count, factors } = given(&self.factors);
+        qrh_sys::Model {
+            a: self.a.edge(),
+            b: self.b.edge(),
+            c: self.c.edge(),
+            lambda: self.lambda.edge(),
+            eta: self.eta.edge(),
+            spot: self.spot.edge(),
             factor_count: count,
             factors,
         }
@@ -98,16 +94,18 @@ impl Model {
 }
 
 /// The number of factors, and the first ten. More are refused before they are read.
-fn given(factors: &[Decimal]) -> edge::Factors {
-    let mut ten = [Decimal::ZERO; FACTORS];
+fn given(factors: &[Decimal]) -> qrh_sys::Factors {
+    let mut ten = [qrh_sys::Decimal::default(); FACTORS];
     for (place, factor) in ten.iter_mut().zip(factors) {
-        *place = *factor;
+        *place = factor.edge();
     }
-    edge::Factors { count: factors.len(), factors: ten }
+    qrh_sys::Factors {
+        count: factors.len(),
+        factors: ten,
+    }
 }
 
 /// `steps` steps of `dt` years each.
-#[repr(C)]
 #[derive(Debug, Clone, Copy, PartialEq, Eq)]
 pub struct Segment {
     /// Above zero.
@@ -127,22 +125,34 @@ impl Schedule {
     /// The steps of all segments.
     #[must_use]
     pub fn steps(&self) -> u64 {
-        self.segments.iter().map(|segment| u64::from(segment.steps)).sum()
+        self.segments
+            .iter()
+            .map(|segment| u64::from(segment.steps))
+            .sum()
     }
 
     /// The number of segments, and the first 64. More are refused before they are read.
-    fn edge(&self) -> edge::Schedule {
-        let mut segments = [Segment { dt: Decimal::ZERO, steps: 0 }; SEGMENTS];
+    fn edge(&self) -> qrh_sys::Schedule {
+        let mut segments = [qrh_sys::Segment::default(); SEGMENTS];
         for (place, segment) in segments.iter_mut().zip(&self.segments) {
-            *place = *segment;
+            *place = qrh_sys::Segment {
+                dt: segment.dt.edge(),
+                steps: segment.steps,
+            };
         }
-        edge::Schedule { count: self.segments.len(), segments }
+        qrh_sys::Schedule {
+            count: self.segments.len(),
+            segments,
+        }
     }
 }
 
 impl FromIterator<(Decimal, u32)> for Schedule {
     fn from_iter<I: IntoIterator<Item = (Decimal, u32)>>(segments: I) -> Self {
-        let segments = segments.into_iter().map(|(dt, steps)| Segment { dt, steps }).collect();
+        let segments = segments
+            .into_iter()
+            .map(|(dt, steps)| Segment { dt, steps })
+            .collect();
         Self { segments }
     }
 }
@@ -175,13 +185,19 @@ impl Vanilla {
     /// A call.
     #[must_use]
     pub const fn call(strike: Decimal) -> Self {
-        Self { style: Style::Call, strike }
+        Self {
+            style: Style::Call,
+            strike,
+        }
     }
 
     /// A put.
     #[must_use]
     pub const fn put(strike: Decimal) -> Self {
-        Self { style: Style::Put, strike }
+        Self {
+            style: Style::Put,
+            strike,
+        }
     }
 }
 
@@ -195,17 +211,23 @@ pub enum VixPayoff {
 }
 
 impl VixPayoff {
-    fn edge(&self) -> edge::VixPayoff {
+    fn edge(&self) -> qrh_sys::VixPayoff {
         match *self {
-            Self::Future => edge::VixPayoff { future: true, put: false, strike: Decimal::ZERO },
-            Self::Vanilla(Vanilla { style, strike }) => {
-                edge::VixPayoff { future: false, put: style == Style::Put, strike }
-            }
+            Self::Future => qrh_sys::VixPayoff {
+                future: true,
+                ..Default::default()
+            },
+            Self::Vanilla(Vanilla { style, strike }) => qrh_sys::VixPayoff {
+                future: false,
+                put: style == Style::Put,
+                strike: strike.edge(),
+            },
         }
     }
 }
 
-/// The tables that a trace writes: N + 1 doubles each, and (N + 1) × n factors, point by point. Point 0 is the start.
+/// The tables that a trace writes: N + 1 doubles each, and (N + 1) × n factors, point by point.
+/// Point 0 is the start.
 #[derive(Debug)]
 pub struct Tables<'a> {
     /// The spot at each point.
@@ -238,7 +260,8 @@ impl Path {
     ///
     /// As [`trace`].
     pub fn trace(model: &Model, schedule: &Schedule, draws: &[f64]) -> Result<Self, Refusal> {
-        // Where the draws are not N, or N is above 4,096, the call is refused before it looks at the tables.
+        // Where the draws are not N, or N is above 4,096, the call is refused before it looks at
+        // the tables.
         let points = draws.len().min(4096) + 1;
         let table = vec![0.0; points];
         let mut path = Self {
@@ -252,7 +275,12 @@ impl Path {
     }
 
     fn tables(&mut self) -> Tables<'_> {
-        Tables { spots: &mut self.spots, variances: &mut self.variances, z: &mut self.z, factors: &mut self.factors }
+        Tables {
+            spots: &mut self.spots,
+            variances: &mut self.variances,
+            z: &mut self.z,
+            factors: &mut self.factors,
+        }
     }
 }
 
@@ -317,7 +345,7 @@ fn answered(number: u32, place: [u64; 4], steps: u64) -> Result<(), Refusal> {
 #[inline]
 pub fn convert(d: Decimal) -> Result<f64, Refusal> {
     // SAFETY: the declaration is the header's.
-    let answer = unsafe { edge::qrh_convert(d) };
+    let answer = unsafe { qrh_sys::qrh_convert(d.edge()) };
     answered(answer.number, answer.place, 0)?;
     Ok(answer.value)
 }
@@ -327,19 +355,31 @@ pub fn convert(d: Decimal) -> Result<f64, Refusal> {
 #[must_use]
 pub fn sqrt(x: f64) -> f64 {
     // SAFETY: the declaration is the header's.
-    unsafe { edge::qrh_sqrt(x) }
+    unsafe { qrh_sys::qrh_sqrt(x) }
 }
 
 /// Traces one path from N draws into lent tables, and answers the steps taken.
 ///
 /// # Errors
 ///
-/// 2 to 10, 1, 11 to 14, 20, 21 and 22. Nothing is written before 22; at 22 the points before the failing step are.
-pub fn trace(model: &Model, schedule: &Schedule, draws: &[f64], tables: Tables<'_>) -> Result<u64, Refusal> {
-    let Tables { spots, variances, z, factors } = tables;
-    // SAFETY: each pointer is followed by the length of its slice, and no slice that is written overlaps another.
+/// 2 to 10, 1, 11 to 14, 20, 21 and 22. Nothing is written before 22; at 22 the points before the
+/// failing step are.
+pub fn trace(
+    model: &Model,
+    schedule: &Schedule,
+    draws: &[f64],
+    tables: Tables<'_>,
+) -> Result<u64, Refusal> {
+    let Tables {
+        spots,
+        variances,
+        z,
+        factors,
+    } = tables;
+    // SAFETY: each pointer is followed by the length of its slice, and no slice that is written
+    // overlaps another.
     let answer = unsafe {
-        edge::qrh_trace(
+        qrh_sys::qrh_trace(
             model.weights.as_ptr(),
             model.weights.len(),
             model.discounts.as_ptr(),
@@ -362,46 +402,59 @@ pub fn trace(model: &Model, schedule: &Schedule, draws: &[f64], tables: Tables<'
     Ok(answer.steps)
 }
 
-macro_rules! batch {
-    ($call:path, $model:ident, $schedule:ident, $option:ident, $paths:ident, $draws:ident, $observations:ident) => {{
-        // SAFETY: each pointer is followed by the length of its slice, and no slice that is written overlaps another.
-        let answer = unsafe {
-            $call(
-                $model.weights.as_ptr(),
-                $model.weights.len(),
-                $model.discounts.as_ptr(),
-                $model.discounts.len(),
-                $model.edge(),
-                $schedule.edge(),
-                $option.style == Style::Put,
-                $option.strike,
-                $paths,
-                $draws.as_ptr(),
-                $draws.len(),
-                $observations.as_mut_ptr(),
-                $observations.len(),
-            )
-        };
-        answered(answer.number, answer.place, answer.steps)?;
-        Ok(Estimate {
-            price: answer.price,
-            price_error: answer.price_error,
-            spot_mean: answer.spot_mean,
-            spot_error: answer.spot_error,
-            paths: answer.paths,
-            non_positive: answer.non_positive,
-            steps: answer.steps,
-        })
-    }};
+/// What [`vanilla`] and [`mirrored`] share.
+fn batch(
+    mirrored: bool,
+    model: &Model,
+    schedule: &Schedule,
+    option: &Vanilla,
+    paths: usize,
+    draws: &[f64],
+    observations: &mut [f64],
+) -> Result<Estimate, Refusal> {
+    let call = if mirrored {
+        qrh_sys::qrh_mirrored
+    } else {
+        qrh_sys::qrh_vanilla
+    };
+    // SAFETY: each pointer is followed by the length of its slice, and no slice that is written
+    // overlaps another.
+    let answer = unsafe {
+        call(
+            model.weights.as_ptr(),
+            model.weights.len(),
+            model.discounts.as_ptr(),
+            model.discounts.len(),
+            model.edge(),
+            schedule.edge(),
+            option.style == Style::Put,
+            option.strike.edge(),
+            paths,
+            draws.as_ptr(),
+            draws.len(),
+            observations.as_mut_ptr(),
+            observations.len(),
+        )
+    };
+    answered(answer.number, answer.place, answer.steps)?;
+    Ok(Estimate {
+        price: answer.price,
+        price_error: answer.price_error,
+        spot_mean: answer.spot_mean,
+        spot_error: answer.spot_error,
+        paths: answer.paths,
+        non_positive: answer.non_positive,
+        steps: answer.steps,
+    })
 }
 
-/// Prices a call or a put on the spot, from `paths` × N draws, path by path. The spot of each path at the end of each
-/// segment is written to `observations`: a row a path, a column a segment.
+/// Prices a call or a put on the spot, from `paths` × N draws, path by path. The spot of each path
+/// at the end of each segment is written to `observations`: a row a path, a column a segment.
 ///
 /// # Errors
 ///
-/// 2 to 10, 1, 11 to 14, 18 to 21, 22 and 25. Nothing is written before 22; at 22 the observations of segments that
-/// ended before the failing step are, at 25 all.
+/// 2 to 10, 1, 11 to 14, 18 to 21, 22 and 25. Nothing is written before 22; at 22 the observations
+/// of segments that ended before the failing step are, at 25 all.
 pub fn vanilla(
     model: &Model,
     schedule: &Schedule,
@@ -410,11 +463,11 @@ pub fn vanilla(
     draws: &[f64],
     observations: &mut [f64],
 ) -> Result<Estimate, Refusal> {
-    batch!(edge::qrh_vanilla, model, schedule, option, paths, draws, observations)
+    batch(false, model, schedule, option, paths, draws, observations)
 }
 
-/// Prices as [`vanilla`] does over mirrored paths: every second path takes the draws of the path before it, negated, so
-/// `paths` is even and there are `paths` / 2 × N draws.
+/// Prices as [`vanilla`] does over mirrored paths: every second path takes the draws of the path
+/// before it, negated, so `paths` is even and there are `paths` / 2 × N draws.
 ///
 /// # Errors
 ///
@@ -427,49 +480,59 @@ pub fn mirrored(
     draws: &[f64],
     observations: &mut [f64],
 ) -> Result<Estimate, Refusal> {
-    batch!(edge::qrh_mirrored, model, schedule, option, paths, draws, observations)
+    batch(true, model, schedule, option, paths, draws, observations)
 }
 
-/// The doubles of workspace that [`vix`] and [`vix_batch`] need for n factors: 5 × dimension², where dimension is
-/// n + n × (n + 1) / 2 + 2.
+/// The doubles of workspace that [`vix`] and [`vix_batch`] need for n factors: 5 × dimension²,
+/// where dimension is n + n × (n + 1) / 2 + 2.
 #[must_use]
 pub const fn workspace_length(n: usize) -> usize {
     let dimension = n + n * (n + 1) / 2 + 2;
     5 * dimension * dimension
 }
 
-/// The VIX over a window of years, at the given factors. What the workspace holds afterwards is free.
+/// The VIX over a window of years, at the given factors. What the workspace holds afterwards is
+/// free.
 ///
 /// # Errors
 ///
 /// 2 to 10, 1, 15 to 17, then 10 and 1 of the given factors, 23 and 24.
-pub fn vix(model: &Model, window: Decimal, factors: &[Decimal], workspace: &mut [f64]) -> Result<Vix, Refusal> {
-    // SAFETY: each pointer is followed by the length of its slice, and the workspace overlaps no other.
+pub fn vix(
+    model: &Model,
+    window: Decimal,
+    factors: &[Decimal],
+    workspace: &mut [f64],
+) -> Result<Vix, Refusal> {
+    // SAFETY: each pointer is followed by the length of its slice, and the workspace overlaps no
+    // other.
     let answer = unsafe {
-        edge::qrh_vix(
+        qrh_sys::qrh_vix(
             model.weights.as_ptr(),
             model.weights.len(),
             model.discounts.as_ptr(),
             model.discounts.len(),
             model.edge(),
-            window,
+            window.edge(),
             given(factors),
             workspace.as_mut_ptr(),
             workspace.len(),
         )
     };
     answered(answer.number, answer.place, 0)?;
-    Ok(Vix { squared: answer.squared, index: answer.index })
+    Ok(Vix {
+        squared: answer.squared,
+        index: answer.index,
+    })
 }
 
-/// Prices a future, a call or a put on the VIX, from `paths` × N draws, path by path. The VIX squared of each path at
-/// the end of each segment is written to `observations`, unchecked. What the workspace holds afterwards is free.
+/// Prices a future, a call or a put on the VIX, from `paths` × N draws, path by path. The VIX
+/// squared of each path at the end of each segment is written to `observations`, unchecked. What
+/// the workspace holds afterwards is free.
 ///
 /// # Errors
 ///
-/// 2 to 10, 1, 11 to 14, 15 to 17, 18 of a call or a put, 19 to 21, 22, then 23 and 24 path by path, and 25. The
-/// observations are written as in [`vanilla`]; at 23 to 25 all are.
-#[allow(clippy::too_many_arguments)]
+/// 2 to 10, 1, 11 to 14, 15 to 17, 18 of a call or a put, 19 to 21, 22, then 23 and 24 path by
+/// path, and 25. The observations are written as in [`vanilla`]; at 23 to 25 all are.
 pub fn vix_batch(
     model: &Model,
     schedule: &Schedule,
@@ -480,16 +543,17 @@ pub fn vix_batch(
     workspace: &mut [f64],
     observations: &mut [f64],
 ) -> Result<VixEstimate, Refusal> {
-    // SAFETY: each pointer is followed by the length of its slice, and no slice that is written overlaps another.
+    // SAFETY: each pointer is followed by the length of its slice, and no slice that is written
+    // overlaps another.
     let answer = unsafe {
-        edge::qrh_vix_batch(
+        qrh_sys::qrh_vix_batch(
             model.weights.as_ptr(),
             model.weights.len(),
             model.discounts.as_ptr(),
             model.discounts.len(),
             model.edge(),
             schedule.edge(),
-            window,
+            window.edge(),
             payoff.edge(),
             paths,
             draws.as_ptr(),
@@ -511,16 +575,22 @@ pub fn vix_batch(
     })
 }
 
-/// The exponential of a square matrix, row by row, into `output`. Answers how often the scaled matrix was squared. The
-/// workspace is 5 × dimension² doubles; what it holds afterwards is free.
+/// The exponential of a square matrix, row by row, into `output`. Answers how often the scaled
+/// matrix was squared. The workspace is 5 × dimension² doubles; what it holds afterwards is free.
 ///
 /// # Errors
 ///
 /// 26, 16 and 17. The output is written where the call is answered.
-pub fn exponential(dimension: usize, input: &[f64], output: &mut [f64], workspace: &mut [f64]) -> Result<u64, Refusal> {
-    // SAFETY: each pointer is followed by the length of its slice, and no slice that is written overlaps another.
+pub fn exponential(
+    dimension: usize,
+    input: &[f64],
+    output: &mut [f64],
+    workspace: &mut [f64],
+) -> Result<u64, Refusal> {
+    // SAFETY: each pointer is followed by the length of its slice, and no slice that is written
+    // overlaps another.
     let answer = unsafe {
-        edge::qrh_exponential(
+        qrh_sys::qrh_exponential(
             dimension,
             input.as_ptr(),
             input.len(),

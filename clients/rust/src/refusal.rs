@@ -34,7 +34,8 @@ pub enum Reported {
     MeanError,
 }
 
-/// Why a call was refused: the specification's number and place, and as text a sentence about the input.
+/// Why a call was refused: the specification's number and place, and as text a sentence about the
+/// input.
 ///
 /// Places count from 1. `steps` are the steps taken, the failing one included; a VIX evaluation
 /// takes none, and has 0.
@@ -46,7 +47,10 @@ pub enum Reported {
 /// let refusal = qrh::convert(fine).unwrap_err();
 /// assert_eq!(refusal, Refusal::Scale);
 /// assert_eq!(refusal.number(), 1);
-/// assert_eq!(refusal.to_string(), "a Decimal that is not zero has more than 28 decimal places (refusal 1)");
+/// assert_eq!(
+///     refusal.to_string(),
+///     "a Decimal that is not zero has more than 28 decimal places (refusal 1)"
+/// );
 /// # Ok::<(), qrh::ParseDecimalError>(())
 /// ```
 #[derive(Debug, Clone, Copy, PartialEq, Eq)]
@@ -96,7 +100,12 @@ pub enum Refusal {
     /// 21: a table is not exactly as long as needed.
     TableLength,
     /// 22: a step is not finite.
-    NonFinite { path: u64, step: u64, quantity: Quantity, steps: u64 },
+    NonFinite {
+        path: u64,
+        step: u64,
+        quantity: Quantity,
+        steps: u64,
+    },
     /// 23: a path's last VIX squared is not finite. An evaluation has no path and no steps.
     VixNonFinite { path: Option<u64>, steps: u64 },
     /// 24: a path's last VIX squared is not above zero. An evaluation has no path and no steps.
@@ -124,7 +133,10 @@ impl Refusal {
                     2 => KernelTable::Discounts,
                     _ => return unknown,
                 };
-                Self::KernelRange { table, index: place[1] }
+                Self::KernelRange {
+                    table,
+                    index: place[1],
+                }
             }
             5 => Self::A,
             6 => Self::C,
@@ -150,7 +162,12 @@ impl Refusal {
                     3 => Quantity::Variance,
                     _ => return unknown,
                 };
-                Self::NonFinite { path: place[0], step: place[1], quantity, steps: place[3] }
+                Self::NonFinite {
+                    path: place[0],
+                    step: place[1],
+                    quantity,
+                    steps: place[3],
+                }
             }
             23 => Self::VixNonFinite { path, steps },
             24 => Self::VixNotPositive { path, steps },
@@ -209,8 +226,15 @@ impl Refusal {
         match *self {
             Self::KernelRange { table, index } => [table as u64 + 1, index, 0, 0],
             Self::Segment { segment } | Self::StepCount { segment } => [segment, 0, 0, 0],
-            Self::NonFinite { path, step, quantity, steps } => [path, step, quantity as u64 + 1, steps],
-            Self::VixNonFinite { path, .. } | Self::VixNotPositive { path, .. } => [path.unwrap_or(0), 0, 0, 0],
+            Self::NonFinite {
+                path,
+                step,
+                quantity,
+                steps,
+            } => [path, step, quantity as u64 + 1, steps],
+            Self::VixNonFinite { path, .. } | Self::VixNotPositive { path, .. } => {
+                [path.unwrap_or(0), 0, 0, 0]
+            }
             Self::Estimate { which, .. } => [which as u64 + 1, 0, 0, 0],
             Self::Unknown { place, .. } => place,
             _ => [0; 4],
@@ -239,32 +263,54 @@ fn sentence(refusal: &Refusal, f: &mut fmt::Formatter<'_>) -> fmt::Result {
         Refusal::NoSegment => "the schedule has no segment",
         Refusal::SegmentCount => "the schedule has more than 64 segments",
         Refusal::Segment { segment } => {
-            return write!(f, "segment {segment} has no steps, or a dt that is not above zero");
+            return write!(
+                f,
+                "segment {segment} has no steps, or a dt that is not above zero"
+            );
         }
         Refusal::StepCount { segment } => {
-            return write!(f, "the segments up to segment {segment} have more than 4,096 steps");
+            return write!(
+                f,
+                "the segments up to segment {segment} have more than 4,096 steps"
+            );
         }
         Refusal::Window => "the window is not above zero",
         Refusal::Workspace => "the workspace is not exactly 5 x dimension^2 doubles long",
-        Refusal::Exponential => "the norm of the matrix, twice the norm or an entry of its exponential is not finite",
+        Refusal::Exponential => {
+            "the norm of the matrix, twice the norm or an entry of its exponential is not finite"
+        }
         Refusal::Strike => "the strike is below zero",
-        Refusal::PathCount => "there are not 2 to 65,536 paths, or in a mirrored batch not an even number of them",
+        Refusal::PathCount => {
+            "there are not 2 to 65,536 paths, or in a mirrored batch not an even number of them"
+        }
         Refusal::DrawCount => "there are not exactly as many draws as needed",
         Refusal::TableLength => "a table is not exactly as long as needed",
-        Refusal::NonFinite { path, step, quantity, steps } => {
+        Refusal::NonFinite {
+            path,
+            step,
+            quantity,
+            steps,
+        } => {
             let name = match quantity {
                 Quantity::Spot => "spot",
                 Quantity::Z => "z",
                 Quantity::Variance => "variance",
             };
-            return write!(f, "the {name} of path {path} is not finite after step {step} (steps taken: {steps})");
+            return write!(
+                f,
+                "the {name} of path {path} is not finite after step {step} (steps taken: {steps})"
+            );
         }
         Refusal::VixNonFinite { path: None, .. } => "the VIX squared is not finite",
-        Refusal::VixNonFinite { path: Some(path), .. } => {
+        Refusal::VixNonFinite {
+            path: Some(path), ..
+        } => {
             return write!(f, "the VIX squared of path {path} is not finite");
         }
         Refusal::VixNotPositive { path: None, .. } => "the VIX squared is not above zero",
-        Refusal::VixNotPositive { path: Some(path), .. } => {
+        Refusal::VixNotPositive {
+            path: Some(path), ..
+        } => {
             return write!(f, "the VIX squared of path {path} is not above zero");
         }
         Refusal::Estimate { which, .. } => match which {
@@ -273,8 +319,12 @@ fn sentence(refusal: &Refusal, f: &mut fmt::Formatter<'_>) -> fmt::Result {
             Reported::Mean => "the mean of the terminal spot or index is not finite",
             Reported::MeanError => "the standard error of the terminal spot or index is not finite",
         },
-        Refusal::Matrix => "the dimension is not 1 to 67, or a matrix is not exactly dimension^2 doubles long",
-        Refusal::Unknown { .. } => "the core refused the input for a reason that this client does not know",
+        Refusal::Matrix => {
+            "the dimension is not 1 to 67, or a matrix is not exactly dimension^2 doubles long"
+        }
+        Refusal::Unknown { .. } => {
+            "the core refused the input for a reason that this client does not know"
+        }
     })
 }
 
@@ -306,19 +356,29 @@ mod tests {
                 *word = given.parse().expect("a place");
             }
             let refusal = Refusal::new(number, place, 7);
-            assert_eq!(refusal.to_string(), format!("{} (refusal {number})", part()));
+            assert_eq!(
+                refusal.to_string(),
+                format!("{} (refusal {number})", part())
+            );
             assert_eq!((refusal.number(), refusal.place()), (number, place));
             seen.push(number);
         }
         seen.dedup();
-        assert_eq!(seen, (1..=27).collect::<Vec<_>>());
+        assert_eq!(seen.pop(), Some(99), "one that is not known");
+        assert_eq!(seen, (1..=26).collect::<Vec<_>>());
     }
 
     #[test]
     fn places_that_are_not_known() {
         for number in [4, 22, 25] {
             let refusal = Refusal::new(number, [9; 4], 0);
-            assert_eq!(refusal, Refusal::Unknown { number, place: [9; 4] });
+            assert_eq!(
+                refusal,
+                Refusal::Unknown {
+                    number,
+                    place: [9; 4]
+                }
+            );
         }
     }
 }

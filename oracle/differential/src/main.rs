@@ -11,7 +11,7 @@ use std::time::{Duration, Instant};
 const USAGE: &str =
     "differential [--seconds N] [--calls A,B] [--seed S] [--cases N] [--first yes] [--only I]
   --seconds N   how long in all (60)
-  --calls A,B   which calls (all that the library exports)
+  --calls A,B   which calls (all)
   --seed S      of the cases (1)
   --cases N     at most so many cases a call
   --first yes   end at the first difference of a call
@@ -32,9 +32,7 @@ struct Options {
 fn options() -> Result<Options, String> {
     let mut options = Options {
         seconds: 60.0,
-        calls: (0..CALLS.len())
-            .filter(|call| core::EXPORTED[*call])
-            .collect(),
+        calls: (0..CALLS.len()).collect(),
         seed: 1,
         cases: u64::MAX,
         first: false,
@@ -63,12 +61,6 @@ fn options() -> Result<Options, String> {
             }
             _ => return Err(String::from(USAGE)),
         }
-    }
-    if let Some(call) = options.calls.iter().find(|call| !core::EXPORTED[**call]) {
-        return Err(format!("the library does not export qrh_{}", CALLS[*call]));
-    }
-    if options.calls.is_empty() {
-        return Err(String::from("the library exports no call"));
     }
     Ok(options)
 }

@@ -2,13 +2,13 @@
 
 use oracle::calls;
 use oracle::edge::{
-    ConvertAnswer, Decimal, ExponentialAnswer, GivenFactors, ModelInputs, ScheduleInputs,
-    TraceAnswer, VanillaAnswer, VixAnswer, VixBatchAnswer, VixPayoff,
+    self, Conversion, Decimal, Estimate, Exponentiation, Factors, Schedule, Tracing, VixEstimate,
+    VixPayoff, VixValue,
 };
 use std::slice::{from_raw_parts, from_raw_parts_mut};
 
 #[unsafe(no_mangle)]
-pub extern "C" fn qrh_convert(decimal: Decimal) -> ConvertAnswer {
+pub extern "C" fn qrh_convert(decimal: Decimal) -> Conversion {
     calls::convert(decimal)
 }
 
@@ -26,8 +26,8 @@ pub unsafe extern "C" fn qrh_trace(
     weights_length: usize,
     discounts: *const f64,
     discounts_length: usize,
-    model: ModelInputs,
-    schedule: ScheduleInputs,
+    model: edge::Model,
+    schedule: Schedule,
     draws: *const f64,
     draws_length: usize,
     spots: *mut f64,
@@ -38,7 +38,8 @@ pub unsafe extern "C" fn qrh_trace(
     z_length: usize,
     factors: *mut f64,
     factors_length: usize,
-) -> TraceAnswer {
+) -> Tracing {
+    // SAFETY: the caller sees to it.
     unsafe {
         calls::trace(
             from_raw_parts(weights, weights_length),
@@ -63,8 +64,8 @@ pub unsafe extern "C" fn qrh_vanilla(
     weights_length: usize,
     discounts: *const f64,
     discounts_length: usize,
-    model: ModelInputs,
-    schedule: ScheduleInputs,
+    model: edge::Model,
+    schedule: Schedule,
     put: bool,
     strike: Decimal,
     paths: usize,
@@ -72,7 +73,8 @@ pub unsafe extern "C" fn qrh_vanilla(
     draws_length: usize,
     observations: *mut f64,
     observations_length: usize,
-) -> VanillaAnswer {
+) -> Estimate {
+    // SAFETY: the caller sees to it.
     unsafe {
         calls::vanilla(
             false,
@@ -98,8 +100,8 @@ pub unsafe extern "C" fn qrh_mirrored(
     weights_length: usize,
     discounts: *const f64,
     discounts_length: usize,
-    model: ModelInputs,
-    schedule: ScheduleInputs,
+    model: edge::Model,
+    schedule: Schedule,
     put: bool,
     strike: Decimal,
     paths: usize,
@@ -107,7 +109,8 @@ pub unsafe extern "C" fn qrh_mirrored(
     draws_length: usize,
     observations: *mut f64,
     observations_length: usize,
-) -> VanillaAnswer {
+) -> Estimate {
+    // SAFETY: the caller sees to it.
     unsafe {
         calls::vanilla(
             true,
@@ -133,12 +136,13 @@ pub unsafe extern "C" fn qrh_vix(
     weights_length: usize,
     discounts: *const f64,
     discounts_length: usize,
-    model: ModelInputs,
+    model: edge::Model,
     window: Decimal,
-    given: GivenFactors,
+    given: Factors,
     workspace: *mut f64,
     workspace_length: usize,
-) -> VixAnswer {
+) -> VixValue {
+    // SAFETY: the caller sees to it.
     unsafe {
         calls::vix(
             from_raw_parts(weights, weights_length),
@@ -160,8 +164,8 @@ pub unsafe extern "C" fn qrh_vix_batch(
     weights_length: usize,
     discounts: *const f64,
     discounts_length: usize,
-    model: ModelInputs,
-    schedule: ScheduleInputs,
+    model: edge::Model,
+    schedule: Schedule,
     window: Decimal,
     payoff: VixPayoff,
     paths: usize,
@@ -171,7 +175,8 @@ pub unsafe extern "C" fn qrh_vix_batch(
     workspace_length: usize,
     observations: *mut f64,
     observations_length: usize,
-) -> VixBatchAnswer {
+) -> VixEstimate {
+    // SAFETY: the caller sees to it.
     unsafe {
         calls::vix_batch(
             from_raw_parts(weights, weights_length),
@@ -200,7 +205,8 @@ pub unsafe extern "C" fn qrh_exponential(
     output_length: usize,
     workspace: *mut f64,
     workspace_length: usize,
-) -> ExponentialAnswer {
+) -> Exponentiation {
+    // SAFETY: the caller sees to it.
     unsafe {
         calls::exponential(
             dimension,

@@ -1,6 +1,6 @@
-//! Compares the stand-in for Decimal with rust_decimal: the copied `decimal_to_f64` is compiled over
-//! the real type, and must give what the oracle gives. It also says where `Decimal::to_f64`, which
-//! the library does not use, is not the nearest double.
+//! Compares the stand-in for Decimal with rust_decimal: the copied `decimal_to_f64` is compiled
+//! over the real type, and must give what the oracle gives. It also says where `Decimal::to_f64`,
+//! which the library does not use, is not the nearest double.
 
 #[allow(dead_code)]
 #[path = "../../src/optionstratlib/decimal.rs"]

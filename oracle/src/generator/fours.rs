@@ -3,14 +3,14 @@
 
 use super::{Source, WILD, decimal};
 use crate::cases::{Case, Model};
-use crate::edge::{Decimal, ModelInputs, ScheduleInputs, Segment, VixPayoff};
+use crate::edge::{self, Decimal, Schedule, Segment, VixPayoff};
 use crate::guess;
 use crate::questions::dimension;
 
 struct Batch {
     mirrored: bool,
     model: Model,
-    schedule: ScheduleInputs,
+    schedule: Schedule,
     window: Decimal,
     paths: usize,
     draws: Vec<f64>,
@@ -113,7 +113,7 @@ impl Source {
             discounts: (0..n)
                 .map(|i| self.between(0.1, 0.4) * 3.0_f64.powi(i as i32))
                 .collect(),
-            inputs: ModelInputs {
+            inputs: edge::Model {
                 a: self.close(0.4),
                 b: self.close(0.2),
                 c: self.close(0.01),
@@ -126,8 +126,8 @@ impl Source {
         }
     }
 
-    fn short_schedule(&mut self) -> ScheduleInputs {
-        let mut schedule = ScheduleInputs {
+    fn short_schedule(&mut self) -> Schedule {
+        let mut schedule = Schedule {
             count: self.pick(&[1, 1, 1, 2, 2, 3, 3, 4, 5, 12, 63, 64]),
             ..Default::default()
         };
