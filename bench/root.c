@@ -3,14 +3,13 @@
 // fastest rounds, which say more on a busy machine.
 //   latency     each root waits for the one before: x = root(x) + a[i]
 //   throughput  the roots do not depend on each other: a sum of root(a[i])
+#define _POSIX_C_SOURCE 200809L
+#include "qrh.h"
 #include <math.h>
-#include <stdint.h>
 #include <stdio.h>
 #include <stdlib.h>
 #include <string.h>
 #include <time.h>
-
-double qrh_sqrt(double x);
 
 enum { COUNT = 1 << 14, ROUNDS = 801 };
 

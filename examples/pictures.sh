@@ -1,7 +1,8 @@
 #!/usr/bin/env bash
 # Proves and builds the core, and draws examples/paths.svg and examples/convergence.svg with it.
-set -eu
-. "$(dirname "$0")/../clients/library.sh"
-mkdir -p target
-cc -std=c11 -O2 -Wall -Wextra -Iinclude examples/pictures.c "$QRH_LIB_DIR/libterminal.a" -lm -o target/pictures
+set -euo pipefail
+. "$(dirname "$0")/../scripts/library.sh"
+need "the pictures are drawn by a C program" cc
+library
+c_program pictures examples/pictures.c
 target/pictures examples/paths.svg examples/convergence.svg

@@ -3,27 +3,25 @@
 # client over it. With `--memory` they run under valgrind, or the C tests under AddressSanitizer
 # where there is no valgrind. The last line is 'N passed, M failed'.
 set -euo pipefail
-. "$(dirname "$0")/../clients/library.sh"
+. "$(dirname "$0")/../scripts/library.sh"
 . tests/parts.sh
 need "the core is called from C, C++, Rust and Python" cc c++ cargo python3
+library
 if [ "${1:-}" != --memory ]; then
     clients
     total
 fi
 
-# The C programs as tests/edge.sh and examples/run.sh build them.
-build() { cc -std=c11 -g -O1 -Iinclude "$@" "$QRH_LIB_DIR/libterminal.a" -lm; }
-mkdir -p target
 if ! command -v valgrind > /dev/null; then
-    build -fsanitize=address,undefined tests/edge.c -o target/edge
-    build -fsanitize=address,undefined examples/price.c -o target/price
+    c_program edge tests/edge.c -g -O1 -fsanitize=address,undefined
+    c_program price examples/price.c -g -O1 -fsanitize=address,undefined
     part "The edge from C, under AddressSanitizer" target/edge
     part "The sample, under AddressSanitizer" target/price 16
     total
 fi
 grind=(valgrind --quiet --error-exitcode=99)
-build tests/edge.c -o target/edge
-build examples/price.c -o target/price
+c_program edge tests/edge.c -g -O1
+c_program price examples/price.c -g -O1
 part "The edge from C, under valgrind" "${grind[@]}" --leak-check=full target/edge
 part "The sample, under valgrind" "${grind[@]}" --leak-check=full target/price 16
 export CARGO_TARGET_X86_64_UNKNOWN_LINUX_GNU_RUNNER="${grind[*]}"

@@ -1,8 +1,8 @@
 #!/usr/bin/env bash
-# Proves and builds the static library, links the comparison with strtod to it, and runs that.
-set -eu
-cd "$(dirname "$0")/.."
-mkdir -p target
-rt staticlib terminal > target/staticlib.out 2>&1 || { cat target/staticlib.out; exit 1; }
-cc -std=c11 -O2 -Wall -Wextra -Iinclude tests/compare_decimal.c target/staticlib/libterminal.a -o target/compare_decimal
+# Compares the proved conversion with the C library's strtod, on Decimals of every scale and size.
+set -euo pipefail
+. "$(dirname "$0")/../scripts/library.sh"
+need "the comparison is a C program" cc
+library
+c_program compare_decimal tests/compare_decimal.c
 target/compare_decimal

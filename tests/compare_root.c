@@ -1,11 +1,9 @@
 // Compares qrh_sqrt with the machine's square root, bit for bit; two NaNs count as equal. Each line of
 // the output names a class of inputs and says how many were compared and how many differ.
+#include "qrh.h"
 #include <math.h>
-#include <stdint.h>
 #include <stdio.h>
 #include <string.h>
-
-double qrh_sqrt(double x);
 
 typedef uint64_t u64;
 typedef unsigned __int128 u128;

@@ -6,18 +6,6 @@ passed=0 failed=0
 log=$(mktemp)
 trap 'rm -f "$log"' EXIT
 
-# need WHY TOOL..: ends the run where a tool is missing.
-need() {
-    local why=$1 tool
-    shift
-    for tool in "$@"; do
-        command -v "$tool" > /dev/null && continue
-        echo "The tool $tool is missing: $why."
-        failed=1
-        total
-    done
-}
-
 # part HEADING COMMAND..: the counts are those of the command's last line, 'N passed, M failed', or
 # else its exit status. A command that fails without a failure, or that counts nothing, has failed.
 part() {
@@ -44,10 +32,10 @@ total() {
 
 # ---- the edge and the clients, over the library in the folder QRH_LIB_DIR
 
-# rust_client WORDS..: its tests and those of its documentation. An ignored one has not passed.
+# rust_client WORDS..: its tests, those of its documentation, and that of the declarations that it
+# stands on. An ignored one has not passed.
 rust_client() {
-    CARGO_TARGET_DIR=$PWD/target/rust cargo test --no-fail-fast --locked --offline \
-        --manifest-path clients/rust/Cargo.toml "$@" 2>&1 | awk '
+    cargo test --no-fail-fast --locked --offline --package qrh-sys --package qrh "$@" 2>&1 | awk '
         { print }
         /^test .* \.\.\. ignored/ { skipped = skipped "skipped: " $0 "\n" }
         /^test result: / { passed += $4; failed += $6 }

@@ -1,27 +1,25 @@
 #!/usr/bin/env bash
 # Shows that tests/differential.sh finds what it should: each fault of oracle/faults.txt is planted in
 # a copy of the oracle, and the comparison with the core must differ in each call that it names. The
-# core is the static library CORE_LIBRARY; where that is not set, the oracle itself without a fault.
+# core is the library in the folder QRH_LIB_DIR; where that is not given, the oracle without a fault.
 # tests/planted.sh NAME plants the faults whose name contains NAME.
 set -euo pipefail
-cd "$(dirname "$0")/.."
+. "$(dirname "$0")/../scripts/library.sh"
+need "the oracle is Rust" cargo
 work=$(mktemp -d)
 trap 'rm -rf "$work"' EXIT
-if [ -z "${CORE_LIBRARY:-}" ]; then
+if [ -z "$library_given" ]; then
     oracle/fake/build.sh "$work/fake"
-    CORE_LIBRARY=$work/fake/libfake.a
+    library_given=$work/fake
 fi
-CORE_LIBRARY=$(realpath "$CORE_LIBRARY")
-export CORE_LIBRARY
+library
 export CARGO_TARGET_DIR=$work/target
-# The oracle asserts that its parts agree, which a fault would break before the comparison.
-export CARGO_PROFILE_RELEASE_DEBUG_ASSERTIONS=false
 # A fault may leave a name unused.
 export RUSTFLAGS=-Awarnings
 
-copy=$work/oracle
+copy=$work/copy
 mkdir "$copy"
-(cd oracle && tar cf - --exclude=./target .) | (cd "$copy" && tar xf -)
+tar cf - --exclude=target Cargo.toml Cargo.lock bench clients oracle | tar xf - -C "$copy"
 
 planted=0 missed=0
 plant() {
@@ -32,8 +30,10 @@ plant() {
         echo "$name: its text does not stand once in $file"
         exit 2
     fi
-    printf '%s\n' "$whole" >"$copy/$file"
-    cargo build --quiet --release --offline --manifest-path "$copy/Cargo.toml" --package differential
+    printf '%s\n' "$whole" > "$copy/oracle/$file"
+    # Not by the profile `judge`: a fault would break what the oracle asserts before the comparison.
+    cargo build --quiet --release --locked --offline --manifest-path "$copy/Cargo.toml" \
+        --package differential
     for call in ${calls//,/ }; do
         planted=$((planted + 1))
         found=$("$work/target/release/differential" --calls "$call" --seconds 30 --first yes) || true
@@ -44,7 +44,7 @@ plant() {
             echo "$name: NOT FOUND by $call: $found"
         fi
     done
-    cp "oracle/$file" "$copy/$file"
+    cp "oracle/$file" "$copy/oracle/$file"
 }
 
 block=()
