@@ -87,7 +87,7 @@ impl Decimal {
         if coefficient == 0 {
             return (false, 0, 0);
         }
-        while scale > 0 && coefficient.is_multiple_of(10) {
+        while scale > 0 && coefficient % 10 == 0 {
             coefficient /= 10;
             scale -= 1;
         }

@@ -97,11 +97,12 @@ fn factors(case: &Case) -> usize {
 
 fn load(file: &str) -> Result<Vec<(Case, Outcome)>, Box<dyn Error>> {
     let bytes = fs::read(file)?;
-    let (words, rest) = bytes.as_chunks::<8>();
-    if !rest.is_empty() {
-        return Err("not a whole number of words".into());
-    }
-    let words: Vec<u64> = words.iter().map(|word| u64::from_le_bytes(*word)).collect();
+    let words = bytes
+        .chunks(8)
+        .map(|word| word.try_into().map(u64::from_le_bytes));
+    let words: Vec<u64> = words
+        .collect::<Result<_, _>>()
+        .map_err(|_| "not a whole number of words")?;
     Ok(records::read(&words)?)
 }
 
