@@ -1,4 +1,5 @@
-/* The calls of the core for C. Link the static library of the crate `terminal`.
+/* The calls of the core for C. README.md, "Link it", has the library. The rules are those of
+   docs/SPECIFICATION.md.
 
    What the caller has to see to, since no call can ask it:
    - A slice is a pointer to doubles and their number, and the pointer is valid for that many; the

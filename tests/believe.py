@@ -255,10 +255,13 @@ def unnamed(reach):
         if cells := re.match(r"\| *(?:`([^`]*)`)? *\|(.*)", line):
             file = cells.group(1) or file
             named |= {(file, name) for name in re.findall(r"`([^`]*)`", cells.group(2))}
+    left = {}
     for one in sorted(reach.definitions, key=lambda one: (one.file.path, one.first)):
         place = f"{one.file.crate}/{one.file.module}"
         if (place, one.name) not in named:
-            yield f"{SPECIFICATION}: its table does not name {one.name} of {place}"
+            left.setdefault(place, []).append(one.name)
+    for place, names in left.items():
+        yield f"{SPECIFICATION}: its table does not name, of {place}: {', '.join(names)}"
 
 
 def main(crate, only_list):

@@ -1,4 +1,4 @@
-//! The checked figures of document 01 as cases, for the recorded list.
+//! The checked figures (docs/SPECIFICATION.md, section 19) as cases, for the recorded list.
 
 use crate::cases::{Case, Model};
 use crate::edge::{self, Decimal, Factors, Schedule, Segment};

@@ -279,7 +279,7 @@ impl Source {
         }
     }
 
-    /// The model of document 01's checked figures.
+    /// The model of the checked figures.
     fn figures(&mut self) -> Model {
         let whole = |value| decimal(false, value, 0);
         let mut inputs = edge::Model {

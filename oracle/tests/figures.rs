@@ -1,4 +1,4 @@
-//! The checked figures of document 01, on the oracle itself.
+//! The checked figures (docs/SPECIFICATION.md, section 19), on the oracle itself.
 
 use oracle::calls;
 use oracle::cases::lent;
