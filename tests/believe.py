@@ -270,6 +270,9 @@ def main(crate, only_list):
     files = [file for file in files if file.crate not in programs]
     reach, types = Reach(files), Types()
     functions, contract_lines = exported(crate, reach)
+    if functions == 0:
+        print(f"crates/{crate}/src exports no function")
+        return 1
     declared = sorted(types.reached(reach.types))
 
     believed = lines = comments = 0
