@@ -1,5 +1,5 @@
-// Times qrh_sqrt beside the machine's square root, in one process, on the same inputs. Short rounds of
-// the two are interleaved. The medians and their ratio are printed, and after them those of the
+// Times qrh_sqrt beside the machine's square root, in one process, on the same inputs. Short rounds
+// of the two are interleaved. The medians and their ratio are printed, and after them those of the
 // fastest rounds, which say more on a busy machine.
 //   latency     each root waits for the one before: x = root(x) + a[i]
 //   throughput  the roots do not depend on each other: a sum of root(a[i])
@@ -31,20 +31,20 @@ static double now(void) {
 static double a[COUNT];
 static volatile double sink;
 
-#define LATENCY(name, root)                                          \
-    static double name(void) {                                       \
-        double x = 1.0, from = now();                                \
-        for (int i = 0; i < COUNT; i++) x = root(x) + a[i];          \
-        sink = x;                                                    \
-        return (now() - from) / COUNT;                               \
+#define LATENCY(name, root)                                 \
+    static double name(void) {                              \
+        double x = 1.0, from = now();                       \
+        for (int i = 0; i < COUNT; i++) x = root(x) + a[i]; \
+        sink = x;                                           \
+        return (now() - from) / COUNT;                      \
     }
 
-#define THROUGHPUT(name, root)                                       \
-    static double name(void) {                                       \
-        double sum = 0.0, from = now();                              \
-        for (int i = 0; i < COUNT; i++) sum += root(a[i]);           \
-        sink = sum;                                                  \
-        return (now() - from) / COUNT;                               \
+#define THROUGHPUT(name, root)                             \
+    static double name(void) {                             \
+        double sum = 0.0, from = now();                    \
+        for (int i = 0; i < COUNT; i++) sum += root(a[i]); \
+        sink = sum;                                        \
+        return (now() - from) / COUNT;                     \
     }
 
 LATENCY(latency_ours, qrh_sqrt)
@@ -66,8 +66,8 @@ static void compare(const char *what, double (*ours)(void), double (*machine)(vo
     qsort(o, ROUNDS, sizeof *o, by_size);
     qsort(m, ROUNDS, sizeof *m, by_size);
     double x = o[ROUNDS / 2], y = m[ROUNDS / 2];
-    printf("%-38s ours %5.2f ns, machine %5.2f ns, ratio %.2f; fastest %5.2f, %5.2f, ratio %.2f\n", what,
-           x, y, x / y, o[0], m[0], o[0] / m[0]);
+    printf("%-38s ours %5.2f ns, machine %5.2f ns, ratio %.2f; fastest %5.2f, %5.2f, ratio %.2f\n",
+           what, x, y, x / y, o[0], m[0], o[0] / m[0]);
 }
 
 // Doubles with random digits and an exponent field from `low` on.

@@ -1,5 +1,5 @@
-/* Prices an index call and put, their mirrored twins, and a VIX future, call and put, and says the answers in words.
-   The first argument is the number of paths, the second the seed. */
+/* Prices an index call and put, their mirrored twins, and a VIX future, call and put, and says the
+   answers in words. The first argument is the number of paths, the second the seed. */
 #define _POSIX_C_SOURCE 200809L
 #include "sample.h"
 #include <time.h>
@@ -11,7 +11,8 @@ static double seconds(void) {
 }
 
 static void say(const char *what, double value, double error, double since) {
-    printf("  %-44s %8.4f   standard error %.4f   %7.1f ms\n", what, value, error, 1e3 * (seconds() - since));
+    printf("  %-44s %8.4f   standard error %.4f   %7.1f ms\n", what, value, error,
+           1e3 * (seconds() - since));
 }
 
 /* The mean payoff of a call over one column of the observations, and its standard error. */
@@ -45,44 +46,49 @@ int main(int count, char **words) {
     double *workspace = table(room);
     draw_normals(seed, draws, needed);
 
-    printf("Quadratic rough Heston with ten factors; the spot is 100. %zu paths of %d steps to three months, seed %llu.\n",
+    printf("Quadratic rough Heston with ten factors; the spot is 100. %zu paths of %d steps to "
+           "three months, seed %llu.\n",
            paths, THREE_MONTHS, (unsigned long long)seed);
 
     double since = seconds();
-    qrh_vix_value vix = qrh_vix(weights, FACTORS, discounts, FACTORS, model, window, today, workspace, room);
+    qrh_vix_value vix =
+        qrh_vix(weights, FACTORS, discounts, FACTORS, model, window, today, workspace, room);
     must_answer("qrh_vix", vix.number, vix.place);
-    printf("\nThe VIX\n  %-44s %8.4f   %31.1f ms\n", "today:", vix.index, 1e3 * (seconds() - since));
+    printf("\nThe VIX\n  %-44s %8.4f   %31.1f ms\n", "today:", vix.index,
+           1e3 * (seconds() - since));
 
     printf("\nThe index, three months ahead\n");
     qrh_estimate call, put;
     since = seconds();
-    call = qrh_vanilla(weights, FACTORS, discounts, FACTORS, model, schedule, false, at_100, paths, draws, needed,
-                       observations, paths * SEGMENTS);
+    call = qrh_vanilla(weights, FACTORS, discounts, FACTORS, model, schedule, false, at_100, paths,
+                       draws, needed, observations, paths * SEGMENTS);
     must_answer("qrh_vanilla", call.number, call.place);
     say("A call at 100 is worth:", call.price, call.price_error, since);
     since = seconds();
     one_month_call(observations, paths, 100, since);
     since = seconds();
-    put = qrh_vanilla(weights, FACTORS, discounts, FACTORS, model, schedule, true, at_100, paths, draws, needed,
-                      observations, paths * SEGMENTS);
+    put = qrh_vanilla(weights, FACTORS, discounts, FACTORS, model, schedule, true, at_100, paths,
+                      draws, needed, observations, paths * SEGMENTS);
     must_answer("qrh_vanilla", put.number, put.place);
     say("A put at 100 is worth:", put.price, put.price_error, since);
-    printf("  The mean spot is %.4f, standard error %.4f; it is a martingale, so 100 is expected.\n", call.spot_mean,
-           call.spot_error);
+    printf(
+        "  The mean spot is %.4f, standard error %.4f; it is a martingale, so 100 is expected.\n",
+        call.spot_mean, call.spot_error);
     printf("  Call less put is %.4f, and mean spot less strike %.4f: parity holds path by path.\n",
            call.price - put.price, call.spot_mean - 100);
     printf("  Paths whose spot fell to zero or below: %llu of %llu, in %llu steps.\n",
-           (unsigned long long)call.non_positive, (unsigned long long)call.paths, (unsigned long long)call.steps);
+           (unsigned long long)call.non_positive, (unsigned long long)call.paths,
+           (unsigned long long)call.steps);
 
     printf("\nThe same by mirrored paths, with half of the draws\n");
     since = seconds();
-    call = qrh_mirrored(weights, FACTORS, discounts, FACTORS, model, schedule, false, at_100, paths, draws, half,
-                        observations, paths * SEGMENTS);
+    call = qrh_mirrored(weights, FACTORS, discounts, FACTORS, model, schedule, false, at_100, paths,
+                        draws, half, observations, paths * SEGMENTS);
     must_answer("qrh_mirrored", call.number, call.place);
     say("A call at 100 is worth:", call.price, call.price_error, since);
     since = seconds();
-    put = qrh_mirrored(weights, FACTORS, discounts, FACTORS, model, schedule, true, at_100, paths, draws, half,
-                       observations, paths * SEGMENTS);
+    put = qrh_mirrored(weights, FACTORS, discounts, FACTORS, model, schedule, true, at_100, paths,
+                       draws, half, observations, paths * SEGMENTS);
     must_answer("qrh_mirrored", put.number, put.place);
     say("A put at 100 is worth:", put.price, put.price_error, since);
 
@@ -91,8 +97,9 @@ int main(int count, char **words) {
     for (int i = 0; i < 3; i++) {
         qrh_vix_payoff payoff = {.future = i == 0, .put = i == 2, .strike = at_20};
         since = seconds();
-        qrh_vix_estimate v = qrh_vix_batch(weights, FACTORS, discounts, FACTORS, model, schedule, window, payoff, paths,
-                                           draws, needed, workspace, room, observations, paths * SEGMENTS);
+        qrh_vix_estimate v =
+            qrh_vix_batch(weights, FACTORS, discounts, FACTORS, model, schedule, window, payoff,
+                          paths, draws, needed, workspace, room, observations, paths * SEGMENTS);
         must_answer("qrh_vix_batch", v.number, v.place);
         say(named[i], v.payoff, v.payoff_error, since);
     }

@@ -1,4 +1,5 @@
-/* What the samples share: a set of inputs, a source of normal draws, and an end for a call that is refused. */
+/* What the samples share: a set of inputs, a source of normal draws, and an end for a call that is
+   refused. */
 #include "qrh.h"
 #include <math.h>
 #include <stdio.h>
@@ -10,12 +11,14 @@ enum { FACTORS = 10, DIMENSION = FACTORS + FACTORS * (FACTORS + 1) / 2 + 2 };
 /* The kernel of alpha = 0.6, ten factors and the ratio 3.92, by the formulas of OptionStratLib's
    QuadraticRoughHestonKernel::try_new. */
 static const double weights[FACTORS] = {
-    0.0358105680272906,  0.061847996637980525, 0.10681692301603687, 0.1844822090099393, 0.31861698015844653,
-    0.5502795125345583,  0.9503810555378641,   1.6413915658336293,  2.8348274165303318, 4.895995963906752,
+    0.0358105680272906,  0.061847996637980525, 0.10681692301603687, 0.1844822090099393,
+    0.31861698015844653, 0.5502795125345583,   0.9503810555378641,  1.6413915658336293,
+    2.8348274165303318,  4.895995963906752,
 };
 static const double discounts[FACTORS] = {
-    0.00244965218854925, 0.00960263657911306,  0.037642335390123204, 0.14755795472928293, 0.5784271825387889,
-    2.2674345555520525,  8.888343457764044,    34.84230635443505,    136.58184090938536,  535.4008163647907,
+    0.00244965218854925, 0.00960263657911306, 0.037642335390123204, 0.14755795472928293,
+    0.5784271825387889,  2.2674345555520525,  8.888343457764044,    34.84230635443505,
+    136.58184090938536,  535.4008163647907,
 };
 
 /* The Decimal of a plain number, as "-0.25". */
@@ -92,7 +95,7 @@ static inline double *table(size_t count) {
 static inline void must_answer(const char *call, uint32_t number, const uint64_t *place) {
     if (number == 0) return;
     fprintf(stderr, "%s is refused by %u, at place (%llu, %llu, %llu, %llu)\n", call, number,
-            (unsigned long long)place[0], (unsigned long long)place[1], (unsigned long long)place[2],
-            (unsigned long long)place[3]);
+            (unsigned long long)place[0], (unsigned long long)place[1],
+            (unsigned long long)place[2], (unsigned long long)place[3]);
     exit(1);
 }

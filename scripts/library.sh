@@ -38,7 +38,10 @@ library() {
         same_toolchain || true
         mkdir -p target
         echo "Proving and building the core: some minutes the first time." >&2
-        rt staticlib "$core" > target/staticlib.out 2>&1 || { cat target/staticlib.out >&2; return 1; }
+        if ! rt staticlib "$core" > target/staticlib.out 2>&1; then
+            cat target/staticlib.out >&2
+            return 1
+        fi
         QRH_LIB_DIR=$PWD/target/staticlib
     fi
     export QRH_LIB_DIR

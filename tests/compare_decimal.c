@@ -1,5 +1,6 @@
-// Compares qrh_convert with the C library's strtod, which rounds correctly, bit by bit: Decimals of every
-// scale and size, ties and their neighbours, round numbers, zeros and refusals. Exits 1 at any difference.
+// Compares qrh_convert with the C library's strtod, which rounds correctly, bit by bit: Decimals of
+// every scale and size, ties and their neighbours, round numbers, zeros and refusals. Exits 1 at
+// any difference.
 #include "qrh.h"
 #include <stdio.h>
 #include <stdlib.h>
@@ -51,9 +52,9 @@ static void expect(bool negative, int scale, u128 c, uint32_t number, uint64_t b
     in_class++;
     if (got.number == number && !places && pattern(got.value) == bits) return;
     if (wrong++ < 10)
-        printf("wrong: %s%08x%016llx at scale %d: number %u, bits %016llx, not %u, %016llx\n", negative ? "-" : "",
-               d.high, (unsigned long long)d.low, scale, got.number, (unsigned long long)pattern(got.value), number,
-               (unsigned long long)bits);
+        printf("wrong: %s%08x%016llx at scale %d: number %u, bits %016llx, not %u, %016llx\n",
+               negative ? "-" : "", d.high, (unsigned long long)d.low, scale, got.number,
+               (unsigned long long)pattern(got.value), number, (unsigned long long)bits);
 }
 
 static void compare(bool negative, int scale, u128 c) {
@@ -72,8 +73,8 @@ int main(void) {
             for (int i = 0; i < 500; i++) compare(draw() & 1, scale, of_bits(bits));
     report("random, each scale 0..28 and size 1..96 bits");
 
-    // Halfway between two doubles: an odd number of 54 bits, times a power of two, over 2^scale. As a Decimal it
-    // is times 5^scale, and one more or less at the last place is next to the tie.
+    // Halfway between two doubles: an odd number of 54 bits, times a power of two, over 2^scale. As
+    // a Decimal it is times 5^scale, and one more or less at the last place is next to the tie.
     for (long i = 0; i < 400000; i++) {
         int scale = (int)(draw() % 19);
         u128 c = of_bits(54) | 1;
@@ -89,7 +90,8 @@ int main(void) {
     }
     report("ties, and one more or less at the last place");
 
-    // The same with zeros behind: one more at the last place is then far below the digits that a double keeps.
+    // The same with zeros behind: one more at the last place is then far below the digits that a
+    // double keeps.
     for (long i = 0; i < 400000; i++) {
         u128 c = of_bits(54) | 1;
         c <<= draw() % 20;
@@ -111,7 +113,8 @@ int main(void) {
         for (int k = 0; k <= 28; k++, ten *= 10)
             for (int step = -1; step <= 1; step++) compare(k & 1, scale, ten + (u128)step);
         for (int bit = 0; bit <= 96; bit++)
-            for (int step = -1; step <= 1; step++) compare(bit & 1, scale, ((u128)1 << bit) + (u128)step);
+            for (int step = -1; step <= 1; step++)
+                compare(bit & 1, scale, ((u128)1 << bit) + (u128)step);
     }
     report("powers of ten and of two, and their neighbours");
 

@@ -1,5 +1,5 @@
-// Compares qrh_sqrt with the machine's square root, bit for bit; two NaNs count as equal. Each line of
-// the output names a class of inputs and says how many were compared and how many differ.
+// Compares qrh_sqrt with the machine's square root, bit for bit; two NaNs count as equal. Each line
+// of the output names a class of inputs and says how many were compared and how many differ.
 #include "qrh.h"
 #include <math.h>
 #include <stdio.h>
@@ -123,7 +123,8 @@ static void near_ties(u64 count) {
             u64 n = m - 1 + d;
             u64 k = (draw() % 500) * 2;
             if (n >= HIDDEN && n < 2 * HIDDEN) check((k + 23) * HIDDEN + (n - HIDDEN));
-            if (n >= 2 * HIDDEN && n < 4 * HIDDEN && n % 2 == 0) check((k + 24) * HIDDEN + (n / 2 - HIDDEN));
+            if (n >= 2 * HIDDEN && n < 4 * HIDDEN && n % 2 == 0)
+                check((k + 24) * HIDDEN + (n / 2 - HIDDEN));
         }
     }
     report("doubles whose root is next to half way between two doubles");

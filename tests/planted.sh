@@ -1,8 +1,8 @@
 #!/usr/bin/env bash
-# Shows that tests/differential.sh finds what it should: each fault of oracle/faults.txt is planted in
-# a copy of the oracle, and the comparison with the core must differ in each call that it names. The
-# core is the library in the folder QRH_LIB_DIR; where that is not given, the oracle without a fault.
-# tests/planted.sh NAME plants the faults whose name contains NAME.
+# Shows that tests/differential.sh finds what it should: each fault of oracle/faults.txt is planted
+# in a copy of the oracle, and the comparison with the core must differ in each call that it names.
+# The core is the library in the folder QRH_LIB_DIR; where that is not given, the oracle without a
+# fault. tests/planted.sh NAME plants the faults whose name contains NAME.
 set -euo pipefail
 . "$(dirname "$0")/../scripts/library.sh"
 need "the oracle is Rust" cargo
@@ -34,9 +34,10 @@ plant() {
     # Not by the profile `judge`: a fault would break what the oracle asserts before the comparison.
     cargo build --quiet --release --locked --offline --manifest-path "$copy/Cargo.toml" \
         --package differential
+    local compare=$work/target/release/differential
     for call in ${calls//,/ }; do
         planted=$((planted + 1))
-        found=$("$work/target/release/differential" --calls "$call" --seconds 30 --first yes) || true
+        found=$("$compare" --calls "$call" --seconds 30 --first yes) || true
         if first=$(grep '^first difference' <<<"$found"); then
             echo "$name: found by $call: $(cut -c1-160 <<<"$first")"
         else

@@ -1,13 +1,14 @@
 """Prices under the quadratic rough Heston model, from draws that you supply.
 
-Decimals go in as decimal.Decimal, int or str, and doubles come out as float. A call that the core refuses raises
-Refusal, with the number, the place and a sentence. Draws and tables are any buffer of doubles: array.array('d'), a
-memoryview or a numpy array is used where it lies, without a copy, while a list is copied first. Tables that are not
-lent are made here, as array.array('d'). One that is lent, or a workspace, must overlap neither
-another nor the draws; this is not checked.
+Decimals go in as decimal.Decimal, int or str, and doubles come out as float. A call that the core
+refuses raises Refusal, with the number, the place and a sentence. Draws and tables are any buffer
+of doubles: array.array('d'), a memoryview or a numpy array is used where it lies, without a copy,
+while a list is copied first. Tables that are not lent are made here, as array.array('d'). One that
+is lent, or a workspace, must overlap neither another nor the draws; this is not checked.
 
     >>> import qrh
-    >>> model = qrh.Model(weights=[1.0], discounts=[4.0], a=1, b=0, c=4, lambda_=1, eta=1, spot=100, factors=[0])
+    >>> model = qrh.Model(
+    ...     weights=[1.0], discounts=[4.0], a=1, b=0, c=4, lambda_=1, eta=1, spot=100, factors=[0])
     >>> schedule = [qrh.Segment("0.25", 1)]
     >>> answer = qrh.vanilla(model, schedule, qrh.Call(100), 2, [0.5, -1.0])
     >>> answer.price, answer.price_error, list(answer.observations)
@@ -17,8 +18,8 @@ another nor the draws; this is not checked.
         ...
     qrh.Refusal: the strike is below zero (refusal 18)
 
-The shared object is built by clients/python/build.sh. It is looked for where QRH_SHARED says, beside this file, and in
-target/python.
+The shared object is built by clients/python/build.sh. It is looked for where QRH_SHARED says,
+beside this file, and in target/python.
 """
 
 import ctypes
@@ -32,8 +33,9 @@ from pathlib import Path as _File
 from typing import NamedTuple
 
 __all__ = [
-    "Call", "Estimate", "Exponential", "FUTURE", "Model", "Path", "Put", "Refusal", "Segment", "Vix", "VixEstimate",
-    "convert", "exponential", "mirrored", "sqrt", "trace", "vanilla", "vix", "vix_batch", "workspace_length",
+    "Call", "Estimate", "Exponential", "FUTURE", "Model", "Path", "Put", "Refusal", "Segment",
+    "Vix", "VixEstimate", "convert", "exponential", "mirrored", "sqrt", "trace", "vanilla", "vix",
+    "vix_batch", "workspace_length",
 ]
 
 
@@ -76,7 +78,8 @@ class _Tracing(ctypes.Structure):
 
 
 class _Estimate(ctypes.Structure):
-    _fields_ = _ANSWER + [(name, c_double) for name in ("price", "price_error", "spot_mean", "spot_error")]
+    _fields_ = _ANSWER + [
+        (name, c_double) for name in ("price", "price_error", "spot_mean", "spot_error")]
     _fields_ += [(name, c_uint64) for name in ("paths", "non_positive", "steps")]
 
 
@@ -85,7 +88,8 @@ class _VixValue(ctypes.Structure):
 
 
 class _VixEstimate(ctypes.Structure):
-    _fields_ = _ANSWER + [(name, c_double) for name in ("payoff", "payoff_error", "index", "index_error")]
+    _fields_ = _ANSWER + [
+        (name, c_double) for name in ("payoff", "payoff_error", "index", "index_error")]
     _fields_ += [("paths", c_uint64), ("steps", c_uint64)]
 
 
@@ -127,7 +131,8 @@ _CALLS = {
     "qrh_mirrored": (_Estimate, _BATCH),
     "qrh_vix": (_VixValue, _KERNEL + [_Model, _Decimal, _Factors, _Lent]),
     "qrh_vix_batch": (
-        _VixEstimate, _KERNEL + [_Model, _Schedule, _Decimal, _VixPayoff, c_size_t, _Read, _Lent, _Lent]),
+        _VixEstimate,
+        _KERNEL + [_Model, _Schedule, _Decimal, _VixPayoff, c_size_t, _Read, _Lent, _Lent]),
     "qrh_exponential": (_Exponentiation, [c_size_t, _Read, _Lent, _Lent]),
 }
 
@@ -142,7 +147,9 @@ def _load():
             library = ctypes.CDLL(str(place))
             break
     else:
-        raise ImportError("libqrh.so is not there: clients/python/build.sh makes it, and QRH_SHARED names another place")
+        raise ImportError(
+            "libqrh.so is not there: clients/python/build.sh makes it, "
+            "and QRH_SHARED names another place")
     calls = {}
     for name, (answer, parameters) in _CALLS.items():
         call = getattr(library, name)
@@ -254,7 +261,7 @@ def _answered(answer):
 # Inputs.
 
 def _decimal(value):
-    """A Decimal as the core has it. ValueError where it has none: 96 bits of coefficient, a scale up to 255."""
+    """A Decimal as the core has it: a coefficient of 96 bits, a scale up to 255; or ValueError."""
     if isinstance(value, float):
         raise TypeError("a float is not a Decimal: write it as a str, or as decimal.Decimal")
     value = Decimal(value)
@@ -279,7 +286,7 @@ def _count(name, value, bits=64):
 
 
 def _ten(factors):
-    """A number of factors, and the first ten. More than ten are refused by 10 before they are read."""
+    """A number of factors, and the first ten. More are refused by 10 before they are read."""
     given = [_decimal(factor) for factor in factors]
     return len(given), (_Decimal * 10)(*given[:10])
 
@@ -295,7 +302,7 @@ def _pointer(view):
 
 
 def _read(values):
-    """A slice that the core reads: where it lies if it is a writable buffer of doubles, else a copy."""
+    """A slice that the core reads: where it lies if a writable buffer of doubles, else a copy."""
     if isinstance(values, (bytes, bytearray, str)):
         raise TypeError("bytes are not doubles: use array.array('d'), or memoryview(...).cast('d')")
     try:
@@ -310,12 +317,13 @@ def _read(values):
 
 
 def _lent(name, table, length):
-    """A slice that the core writes, and the table it belongs to; made of zeros where none is lent."""
+    """A slice that the core writes, and its table; made of zeros where none is lent."""
     if table is None:
         table = array("d", bytes(8 * length))
     view = memoryview(table)
     if not _is_doubles(view) or view.readonly:
-        raise TypeError(f"{name} must be a writable buffer of doubles in one piece, as array.array('d')")
+        raise TypeError(
+            f"{name} must be a writable buffer of doubles in one piece, as array.array('d')")
     return _pointer(view), table
 
 
@@ -327,7 +335,7 @@ class Segment(NamedTuple):
 
 
 def _schedule(segments):
-    """The schedule for the core, its number of segments and its steps, both 0 where 12 to 14 will refuse it."""
+    """The schedule for the core, its segments and its steps; both 0 where 12 to 14 refuse it."""
     segments = list(segments)
     schedule = _Schedule(count=len(segments))
     total = 0
@@ -390,7 +398,7 @@ def _style(payoff):
 # Answers.
 
 class Path(NamedTuple):
-    """A traced path: tables of N + 1 doubles, point 0 being the start, and factors of (N + 1) x n, point by point."""
+    """A traced path: tables of N + 1 doubles, the start first, and factors of (N + 1) x n."""
 
     steps: int
     spots: object
@@ -400,7 +408,7 @@ class Path(NamedTuple):
 
 
 class Estimate(NamedTuple):
-    """Of a vanilla batch. `observations` has the spot at the end of each segment: a row a path, a column a segment."""
+    """Of a vanilla batch. `observations`: spots at segments' ends, a row a path, a column a segment."""
 
     price: float
     price_error: float
@@ -455,7 +463,7 @@ def sqrt(x):
 
 
 def trace(model, schedule, draws, *, spots=None, variances=None, z=None, factors=None):
-    """One path over N steps, from N draws. At refusal 22 the lent tables hold the points before the failing step."""
+    """One path, from N draws. At refusal 22 lent tables hold the points before the failing step."""
     schedule, _, total = _schedule(schedule)
     points = total + 1
     tables = [
@@ -485,7 +493,7 @@ def vanilla(model, schedule, payoff, paths, draws, *, observations=None):
 
 
 def mirrored(model, schedule, payoff, paths, draws, *, observations=None):
-    """The same over mirrored paths, from paths / 2 x N draws: every second path takes the draws before it negated."""
+    """The same over mirrored paths: every second one takes the draws of the one before, negated."""
     return _batch("qrh_mirrored", model, schedule, payoff, paths, draws, observations)
 
 
@@ -503,7 +511,8 @@ def vix(model, window, factors=None, *, workspace=None):
     """The VIX over a window of years at the given factors, or at the initial ones."""
     given = model._initial if factors is None else _Factors(*_ten(factors))
     answer = _answered(
-        _library["qrh_vix"](*model._arguments(), _decimal(window), given, *_workspace(model, workspace)))
+        _library["qrh_vix"](
+            *model._arguments(), _decimal(window), given, *_workspace(model, workspace)))
     return Vix(*_values(answer))
 
 

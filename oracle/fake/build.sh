@@ -1,7 +1,7 @@
 #!/usr/bin/env bash
-# build.sh OUT: writes to the folder OUT a library of the core's name that holds the oracle under the
-# C names of the core. Every other name in it is made local, so that it shares no code with the
-# oracle that it is linked with.
+# build.sh OUT: writes to the folder OUT a library of the core's name that has the oracle under the C
+# names of the core. Every other name in it is made local, so that it shares no code with the oracle
+# that it is linked with.
 set -euo pipefail
 mkdir -p "$1"
 out=$(realpath "$1")

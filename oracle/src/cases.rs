@@ -374,8 +374,8 @@ impl Case {
         }
     }
 
-    /// Whether the case has a norm outside the comparison with the Rust's number of squarings. It is
-    /// still compared, with the least number.
+    /// Whether the case has a norm outside the comparison with the Rust's number of squarings. It
+    /// is still compared, with the least number.
     #[must_use]
     pub fn excluded(&self) -> bool {
         if !self.passes_16() {

@@ -1,6 +1,6 @@
 //! The questions (docs/SPECIFICATION.md, section 14), read plainly: for each call the number, the
-//! place and what every lent table holds afterwards. It shares nothing with the copied Rust, whose own
-//! refusals are others; what it needs of the values (a state after a step, an exponential, an
+//! place and what every lent table holds afterwards. It shares nothing with the copied Rust, whose
+//! own refusals are others; what it needs of the values (a state after a step, an exponential, an
 //! estimate) is handed to it.
 
 use crate::edge::{self, Decimal, Factors, Schedule, VixPayoff};

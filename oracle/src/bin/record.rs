@@ -25,8 +25,8 @@ fn main() -> Result<(), Box<dyn Error>> {
 const LOOKED_AT: u64 = 20_000;
 
 /// The figures, then generated cases: of each number that a call gives the first `most`, more of 0
-/// and 22, and the first answered one with ten factors. Cases that are too long, and those whose norm
-/// is outside the comparison, are left out.
+/// and 22, and the first answered one with ten factors. Cases that are too long, and those whose
+/// norm is outside the comparison, are left out.
 fn write(file: &str, options: &[&str]) -> Result<(), Box<dyn Error>> {
     let mut calls: Vec<usize> = (0..CALLS.len()).collect();
     let mut most = 6;
