@@ -22,6 +22,7 @@ SPECIFICATION = Path("docs/SPECIFICATION.md")
 START = re.compile(r"((?:abbrev |unfoldable )?(?:pub )?)(record )?(?!use |mod )(\S+)(?= :|$| )")
 TOKEN = re.compile(r"[^\s(){};,\[\]|.⌜⌝]+|[(){};,\[\]|.]")
 WORD = re.compile(r"[^\s(){};,\[\]|.⌜⌝]+$")
+OPEN, CLOSED = ("(", "{", "["), (")", "}", "]")
 CONTRACT = re.compile(r'^pub extern "C" fn .*?(?=^\{)', re.MULTILINE | re.DOTALL)
 USE = re.compile(r"^use (\w+)::(?:\w+::)*(\w+);", re.MULTILINE)
 IMPORT = re.compile(r"(?:pub |ghost )?use (\S+?)(?:\.\{([^}]*)\}| as (\S+?))?;?$")
@@ -32,10 +33,15 @@ class Definition:
 
     def __init__(self, file, first, lines):
         self.file, self.first = file, first
-        kept = [line for line in lines if not line.lstrip().startswith("--")]
-        self.comments = len(lines) - len(kept)
-        self.text = [line for line in kept if not line.startswith("unfolding")]
-        _, record, self.name = START.match(kept[0]).groups()
+        self.comments, self.text = 0, []
+        unfolding = False
+        for line in lines:
+            unfolding = line.startswith("unfolding") or unfolding and line.startswith(" ")
+            if line.lstrip().startswith("--"):
+                self.comments += 1
+            elif line.strip() and not unfolding:
+                self.text.append(line)
+        _, record, self.name = START.match(self.text[0]).groups()
         self.is_record = record is not None
 
 
@@ -58,9 +64,9 @@ class File:
         for i, end in zip(starts, starts[1:] + [len(lines)]):
             while i > 0 and lines[i - 1].startswith("--"):
                 i -= 1
-            body = lines[i:end]
-            cut = next((k for k, line in enumerate(body) if not line.strip()), len(body))
-            one = Definition(self, i + 1, body[:cut])
+            while not lines[end - 1].strip() or lines[end - 1].startswith("--"):
+                end -= 1
+            one = Definition(self, i + 1, lines[i:end])
             self.definitions[one.name] = one
 
     @staticmethod
@@ -73,13 +79,13 @@ class File:
 
 
 def read_import(names, line):
-    """`use A.{x, y}` gives x and y, `use A as x` gives x; each stands for (A, name)."""
+    """`use A.{x, y as z}` gives x and z, `use A as x` gives x: each by A and its name there."""
     place, listed, alias = IMPORT.match(line).groups()
     if alias:
         names[alias] = (place, None)
-    for name in (listed or "").split(","):
-        if name.strip():
-            names[name.strip()] = (place, name.strip())
+    for words in map(str.split, (listed or "").split(",")):
+        if words:
+            names[words[-1]] = (place, words[0])
 
 
 class Types:
@@ -161,57 +167,68 @@ def parts_of(one):
 
 
 def free_names(text, imports, is_record=False):
-    """The names of a text but for those that it binds itself, and for fields."""
-    tokens = [(found.group(), found.start(), found.end()) for found in TOKEN.finditer(text)]
-    bound, names = set(), []
-    equation = next((i for i, token in enumerate(tokens) if token[0] == "="), None)
+    """The names of a text, but for those that it binds itself and for fields."""
+    tokens = [found.group() for found in TOKEN.finditer(text)]
+    # What is bound within each bracket that is open, the outermost first; and a record's fields.
+    scopes, brackets, fields, names = [set()], [""], None, []
     i = 0
-    if not is_record and equation is not None and ":" not in [t[0] for t in tokens[:equation]]:
-        # An equation: what stands before = are the function, constructors and variables.
-        bound |= {word for word, _, _ in tokens[:equation] if not constructor(word, imports)}
-        names += [word for word, _, _ in tokens[:equation] if constructor(word, imports)]
-        i = equation + 1
+    if not is_record and "=" in tokens and ":" not in tokens[: tokens.index("=")]:
+        # An equation: before its = stand the function, constructors and variables.
+        i = tokens.index("=") + 1
+        scopes[0] = variables(tokens[:i], imports)
+        names += [word for word in tokens[:i] if is_constructor(word, imports)]
     while i < len(tokens):
-        word, start, end = tokens[i]
-        after = tokens[i + 1][0] if i + 1 < len(tokens) else ""
-        before = tokens[i - 1][0] if i > 0 else ""
+        word, before = tokens[i], tokens[i - 1] if i else ""
+        after = tokens[i + 1] if i + 1 < len(tokens) else ""
         if word == "λ":
+            end = tokens.index(".", i)
+            scopes[-1] |= set(tokens[i:end])
+            i = end
+        elif word == "let":
+            scopes[-1].add(after)
+        elif word == "pub" and is_record and i > 0:
+            # A field: what the type of the one before bound is bound no more.
+            fields = (scopes[0] if fields is None else fields) | {after}
+            scopes[0] = set(fields)
+        elif word in OPEN:
+            scopes[-1] |= binder(tokens, i + 1)
+            scopes.append(set())
+            brackets.append(word)
+        elif word in CLOSED:
+            scopes.pop()
+            brackets.pop()
+        if word in ("[", "|") and brackets[-1] == "[":
+            scopes[-1] = alternative(tokens, i + 1, imports)
+        elif word == ".":
+            # A field, `x .y`, or a constructor, `alias.y`.
             i += 1
-            while tokens[i][0] != ".":
-                bound.add(tokens[i][0])
-                i += 1
-        elif word in "({" and (binder := binds(tokens, i + 1)):
-            bound |= binder
-            i += len(binder)
-        elif word in ("let", "pub") and is_record is (word == "pub"):
-            bound.add(after)
-            i += 1
-        elif word in "[|":
-            arrow = next((k for k in range(i, len(tokens)) if tokens[k][0] in ("↦", "]", ";")), i)
-            if tokens[arrow][0] == "↦":
-                left = [token[0] for token in tokens[i + 1 : arrow]]
-                bound |= {name for name in left if not constructor(name, imports)}
-        elif WORD.match(word):
-            glued = i > 0 and before == "." and tokens[i - 1][2] == start
-            field = after == "=" and before in ("{", ";")
-            if not glued and not field and word not in bound:
+        elif WORD.match(word) and not (after == "=" and before in ("{", ";")):
+            if not any(word in scope for scope in scopes):
                 names.append(word)
         i += 1
     return names
 
 
-def constructor(word, imports):
-    place = imports.get(word, ("", None))[0]
-    return "the-variants" in place
+def is_constructor(word, imports):
+    return "the-variants" in imports.get(word, ("", None))[0]
 
 
-def binds(tokens, i):
-    """The names of a binder `(x y : T)` whose bracket is before i."""
-    names = set()
-    while i < len(tokens) and WORD.match(tokens[i][0]) and tokens[i][0] != ":":
-        names.add(tokens[i][0])
-        i += 1
-    return names if i < len(tokens) and tokens[i][0] == ":" else set()
+def variables(tokens, imports):
+    return {word for word in tokens if WORD.match(word) and not is_constructor(word, imports)}
+
+
+def binder(tokens, i):
+    """The names of `(x y : T)`, whose bracket is before i; none where it is no binder."""
+    end = i
+    while end < len(tokens) and WORD.match(tokens[end]) and tokens[end] != ":":
+        end += 1
+    return set(tokens[i:end]) if end < len(tokens) and tokens[end] == ":" else set()
+
+
+def alternative(tokens, i, imports):
+    """The variables of `pattern ↦ ..`, which begins at i."""
+    end = next((k for k in range(i, len(tokens)) if tokens[k] in ("↦", "|", "]")), i)
+    return variables(tokens[i:end], imports) if end > i and tokens[end] == "↦" else set()
 
 
 def exported(crate, reach):
