@@ -36,7 +36,7 @@ fn decimal(d: edge::Decimal) -> Decimal {
 }
 
 fn positive(d: edge::Decimal) -> Positive {
-    Positive::new_decimal(decimal(d)).expect("asked at the door")
+    Positive::new_decimal(decimal(d)).expect("asked by then")
 }
 
 fn style(put: bool) -> OptionStyle {
@@ -62,7 +62,7 @@ fn params(weights: &[f64], discounts: &[f64], model: &edge::Model) -> QuadraticR
             .collect(),
         positive(model.spot),
     )
-    .expect("asked at the door")
+    .expect("asked by then")
 }
 
 /// The Rust's schedule, of inputs that passed the door.
@@ -71,7 +71,7 @@ fn lay(given: &edge::Schedule) -> Schedule {
         .iter()
         .map(|segment| (decimal(segment.dt), segment.steps as usize))
         .collect();
-    Schedule::from_segments(&segments).expect("asked at the door")
+    Schedule::from_segments(&segments).expect("asked by then")
 }
 
 fn containing(schedule: &Schedule, step: u64) -> &Segment {
@@ -116,7 +116,7 @@ pub fn convert(d: edge::Decimal) -> Conversion {
             ..Default::default()
         },
         Ok(()) => {
-            let value = decimal_to_f64(decimal(d)).expect("asked at the door");
+            let value = decimal_to_f64(decimal(d)).expect("asked by then");
             // The library says that it is the double that the same digits parse to.
             debug_assert_eq!(
                 format!("{}e-{}", decimal(d).mantissa(), d.scale).parse(),
@@ -236,7 +236,7 @@ fn run_batch(
     let runs = run_paths(
         params,
         schedule,
-        NonZeroUsize::new(paths).expect("asked at the door"),
+        NonZeroUsize::new(paths).expect("asked by then"),
         draws,
         |_, state: &State, observed: &mut Vec<f64>| observed.push(observe(state)),
     );
@@ -300,7 +300,7 @@ pub fn vanilla(
         &schedule,
         style(put),
         positive(strike),
-        NonZeroUsize::new(paths).expect("asked at the door"),
+        NonZeroUsize::new(paths).expect("asked by then"),
         &lists,
     )
     .expect("no path stops");
@@ -364,7 +364,7 @@ fn build(
     params: &QuadraticRoughHestonParams,
     window: edge::Decimal,
 ) -> Asked<QuadraticRoughHestonVix> {
-    let delta = decimal_to_f64(decimal(window)).expect("asked at the door");
+    let delta = decimal_to_f64(decimal(window)).expect("asked by then");
     let generator =
         QuadraticRoughHestonVix::generator(params, delta).expect("a buffer of this size");
     let asked = exponential_of(&generator).map(|_| ());
@@ -390,7 +390,7 @@ pub fn vix_norm(
     window: edge::Decimal,
 ) -> f64 {
     let params = params(weights, discounts, model);
-    let delta = decimal_to_f64(decimal(window)).expect("asked at the door");
+    let delta = decimal_to_f64(decimal(window)).expect("asked by then");
     QuadraticRoughHestonVix::generator(&params, delta)
         .expect("a buffer of this size")
         .norm_1()
@@ -422,7 +422,7 @@ pub fn vix(
             .collect();
         let raw: Vec<f64> = factors
             .iter()
-            .map(|factor| decimal_to_f64(*factor).expect("asked at the door"))
+            .map(|factor| decimal_to_f64(*factor).expect("asked by then"))
             .collect();
         let asked = questions::vix_squared(vix.raw_squared(&raw), &[]);
         match (vix.squared_at(&factors), vix.at(&factors)) {
@@ -507,7 +507,7 @@ pub fn vix_batch(
         &schedule,
         &vix,
         raw_payoff,
-        NonZeroUsize::new(paths).expect("asked at the door"),
+        NonZeroUsize::new(paths).expect("asked by then"),
         &lists,
     );
     let column = questions::vix_column(observations, ends.len());
