@@ -253,7 +253,8 @@ class Refusals(unittest.TestCase):
             refusal = Refusal(int(number), tuple(map(int, place.split())))
             self.assertEqual(refusal.sentence, sentence)
             numbers.append(int(number))
-        self.assertEqual(sorted(set(numbers)), [*range(1, 27), 99])
+        *known, unknown = sorted(set(numbers))
+        self.assertEqual((known, unknown), (list(range(1, len(known) + 1)), 99))
 
     def test_a_refusal_travels(self):
         copy = pickle.loads(pickle.dumps(Refusal(22, (2, 1, 1, 2), 2)))
