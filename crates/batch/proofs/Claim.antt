@@ -31,19 +31,19 @@ use Rattle.walks.proofs.Cells.{row-below}
 use Rattle.estimates.specs.declared.Estimates.{Estimates}
 use Rattle.estimates.specs.declared.Payoff.{Payoff}
 use Rattle.estimates.proofs.Values.{SameUpTo}
-use Rattle.batch.specs.declared.Run.{Run}
+use Rattle.paths.specs.declared.Run.{Run}
 use Rattle.batch.specs.declared.Priced.{Priced}
 use Rattle.batch.specs.declared.Priced.the-variants.{Price}
 use Rattle.batch.specs.declared.Report.{Report}
-use Rattle.batch.specs.Run.{RunStop, onPath, runStop, entryAfter, tableAfter}
+use Rattle.paths.specs.Run.{RunStop, onPath, runStop, entryAfter, tableAfter}
 use Rattle.batch.specs.Report.{reported, refusedAfter, pricedAt, pricedRun}
 use Rattle.batch.specs.Claim.{pricedAnswer, answerOf, OneTo, stateOf, FiniteAt, StepTaken, PlainWalks}
 use Rattle.batch.specs.Claim.{SomeStepFails, FiniteBefore, FirstFailure, reportOf, Reaches}
 use Rattle.batch.specs.Claim.{entry, Written, BatchClaim}
-use Rattle.batch.specs.Inner.Handed.{lastObservation, walkedOf, runAt, runAnswer, BatchRun}
+use Rattle.paths.specs.Inner.Handed.{lastObservation, walkedOf, runAt, runAnswer, BatchRun}
 use Rattle.batch.specs.Inner.Handed.{reportedOf, pricedFrom, pricedAfter, BatchPriced}
 use Rattle.batch.proofs.Reporting.{reported-read, reported-other, reported-same, questions-same}
-use Rattle.batch.proofs.Stops.{runStopAt, entry-new, entry-run, entry-path}
+use Rattle.paths.proofs.Stops.{runStopAt, entry-new, entry-run, entry-path}
 
 -- ---- 1
 module _ (b : Batch) (laid : Laid (b .simulation .schedule)) where

@@ -1,9 +1,5 @@
-pub mod Stops
-pub mod Turns
-pub mod Whole
 pub mod Claim
-pub mod Columns
-pub mod Squared
-pub mod Groups
 pub mod Reporting
-pub mod Tallying
+pub mod Squared
+pub mod Sizes
+pub mod Asked

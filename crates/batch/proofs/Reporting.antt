@@ -19,7 +19,7 @@ use Rattle.estimates.specs.declared.Tally.{Tally}
 use Rattle.estimates.specs.Payoff.{underlyingOf}
 use Rattle.estimates.specs.Moments.{tallyOf, estimatesFrom, notFinite}
 use Rattle.estimates.proofs.Values.{SameUpTo, tally-same}
-use Rattle.batch.specs.declared.Walked.{Walked}
+use Rattle.paths.specs.declared.Walked.{Walked}
 use Rattle.batch.specs.declared.Priced.{Priced}
 use Rattle.batch.specs.declared.Priced.the-variants as priced
 use Rattle.batch.specs.Report.{squaredQuestions, lastQuestions, unlessNotFinite, reported}

@@ -1,4 +1,5 @@
-pub mod Run
+pub mod Questions
 pub mod Report
 pub mod Claim
+pub mod Answered
 pub mod Inner

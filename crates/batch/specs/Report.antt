@@ -1,11 +1,11 @@
 -- What is made of the paths of a batch: its report, or a refusal. Definitions only.
 use mathlib.Core.List.{List, [], _∷_}
 use mathlib.Core.Option.{Option, none, some}
-use Prim.Native.Nat.{ℕ, zero, suc, pred, _+_, _*_}
+use Prim.Native.Nat.{ℕ, zero, suc, _*_}
 use lib.Ieee.{Float, lt}
 use Rattle.numeric.specs.Double.{plusZero, finite}
 use Rattle.refusal.specs.declared.Refusal.{Refusal}
-use Rattle.refusal.specs.declared.Refusal.the-variants.{OnPath, NonFinite, Estimate}
+use Rattle.refusal.specs.declared.Refusal.the-variants.{OnPath, Estimate}
 use Rattle.refusal.specs.Questions.{Question, ask, firstNo, each, onceAsked}
 use Rattle.walks.specs.declared.Observed.{Observed}
 use Rattle.walks.specs.declared.Observed.the-variants.{Spot, VixSquared}
@@ -14,9 +14,9 @@ use Rattle.estimates.specs.declared.Estimates.{Estimates}
 use Rattle.estimates.specs.declared.Payoff.{Payoff}
 use Rattle.estimates.specs.Payoff.{underlyingOf}
 use Rattle.estimates.specs.Moments.{tallyOf, estimatesFrom, notFinite}
+use Rattle.paths.specs.Run.{RunStop, runStop, stepsAt, refusalAt}
 use Rattle.batch.specs.declared.Priced.{Priced}
 use Rattle.batch.specs.declared.Priced.the-variants.{Price, Refused}
-use Rattle.batch.specs.Run.{RunStop, runStop}
 
 -- Rule 14.11: of the last VIX squared of path p
 abbrev pub squaredQuestions : (ℕ → Float) → ℕ → List Question
@@ -45,13 +45,6 @@ reported observed payoff last paths refused priced =
 -- a No, with the steps taken by then
 abbrev pub refusedAfter : ℕ → Refusal → Priced
 refusedAfter steps refusal = Refused refusal steps
-
--- Rule 9.6: the steps taken, the failing one included
-abbrev pub stepsAt : Batch → RunStop → ℕ
-stepsAt b s = pred (s .path) * b .simulation .schedule .total + s .stop .step
-
-abbrev pub refusalAt : Batch → RunStop → Refusal
-refusalAt b s = NonFinite (s .path) (s .stop .step) (s .stop .quantity) (stepsAt b s)
 
 -- Rule 9.8: 22 where the batch stops; else what is reported of the last observations
 abbrev pub pricedAt : Batch → Payoff → Option RunStop → Priced

@@ -5,16 +5,18 @@ ghost use lib.ListN.{length};
 ghost use Rattle.refusal.specs.Questions.{firstNo, each};
 ghost use Rattle.walks.specs.Inner.Handed.{batchOf};
 ghost use Rattle.batch.specs.Report.{squaredQuestions, lastQuestions};
-ghost use Rattle.batch.specs.Inner.Handed.{Prepared, lastObservation, reportedOf};
-ghost use Rattle.batch.specs.Inner.Handed.{pricedFrom, pricedAfter, BatchPriced};
+ghost use Rattle.paths.specs.Inner.Handed.{Prepared, lastObservation};
+ghost use Rattle.batch.specs.Inner.Handed.{reportedOf, pricedFrom, pricedAfter};
+ghost use Rattle.batch.specs.Inner.Handed.{BatchPriced, Ready, PricedOnceAsked};
 use crate::Priced;
 use crate::Report;
-use crate::Run;
-use crate::Walked;
-use crate::paths;
-use crate::tally;
+use crate::questions;
 use estimates::Payoff;
 use estimates::welford;
+use paths::Run;
+use paths::Walked;
+use paths::loops;
+use paths::tally;
 use refusal::Outcome;
 use refusal::Refusal;
 use walks::Batch;
@@ -116,11 +118,32 @@ fn priced_after(ran: Run, batch: Batch, observations: &[f64]) -> Priced
 }
 
 // The paths of a batch whose questions are passed, and what is made of them.
-pub fn price(batch: Batch, payoff: Payoff, draws: &[f64], observations: &mut [f64]) -> Priced
+fn price_admitted(
+    batch: Batch,
+    payoff: Payoff,
+    draws: &[f64],
+    observations: &mut [f64],
+) -> Priced
     requires { ⌜ Prepared batch (now draws) (now observations) ⌝ }
     ensures { λ r. ⌜ BatchPriced (batchOf batch (now (draws .entry))) payoff
         (now (observations .entry)) (now (observations .exit)) r ⌝ }
 {
-    let ran = paths::run_paths(batch, payoff, draws, observations);
+    let ran = loops::run_paths(batch, payoff, draws, observations);
     priced_after(ran, batch, observations)
+}
+
+// Questions 19 to 21, and the price where they are passed.
+pub fn price(batch: Batch, payoff: Payoff, draws: &[f64], observations: &mut [f64]) -> Priced
+    requires { ⌜ Ready batch ⌝ }
+    ensures { λ r. ⌜ PricedOnceAsked batch payoff (now (draws .entry))
+        (now (observations .entry)) (now (observations .exit)) r ⌝ }
+{
+    let asked = questions::batch_questions(batch, draws.len(), observations.len());
+    if let Outcome::Refused(refusal) = asked {
+        return Priced::Refused {
+            refusal: refusal,
+            steps: 0,
+        };
+    }
+    price_admitted(batch, payoff, draws, observations)
 }

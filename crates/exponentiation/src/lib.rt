@@ -1,6 +1,5 @@
 // The matrix call: the exponential of a square matrix of doubles, once every question is passed.
 ghost use mathlib.Core.Path.{_≡_};
-ghost use lib.ListN.{length};
 ghost use Rattle.refusal.specs.declared.Refusal.the-variants.{Plain};
 ghost use Rattle.exponentiation.specs.Call.{shapeRight, answered, refused};
 ghost use Rattle.exponentiation.specs.Call.{matrixInputs, ExponentialAnswered};

@@ -134,7 +134,7 @@ returns-3 c =
     (passed (dim .before)) (dim .before .double-of .ensures) (dim .dimension-of .ensures)
     (fill .fill .last .1 .1 .1 .1 .0) (fill .fill .ensures) (exp .exponential .ensures .0)
     (exp .exponential .last .1 .0) (c .of-matrix .result) (told .enum-told3 .given .0 .0)
-    (told .enum-told3 .given .1) (exp .exponential .ensures .1) (c .of-matrix .ensures)
+    (told .enum-told3 .given .1) (exp .exponential .ensures .1 .0) (c .of-matrix .ensures)
 
 pub prepare-spec : {M : Type 1} → statement M
 prepare-spec =

@@ -1,0 +1,88 @@
+// What is asked of a batch before 22, past its model: 18 and 1 of the strike, 19 of the paths, 20 of
+// the draws and 21 of the lent table.
+ghost use mathlib.Core.Path.{_≡_};
+ghost use Prim.Native.Nat.{_≤_};
+ghost use Rattle.refusal.specs.Questions.{firstNo};
+ghost use Rattle.model.specs.Inner.Laid.{Laid};
+ghost use Rattle.walks.specs.Batch.{drawsNeeded};
+ghost use Rattle.batch.specs.Questions.{strikeQuestions, vanillaAt, pathsPass};
+ghost use Rattle.batch.specs.Questions.{pathQuestions, batchQuestions};
+use decimal::Decimal;
+use estimates::Payoff;
+use estimates::Style;
+use model::Schedule;
+use refusal::Outcome;
+use refusal::Refusal;
+use walks::Batch;
+
+pub fn strike_questions(strike: Decimal) -> Outcome
+    ensures { λ r. ⌜ r ≡ firstNo (strikeQuestions strike) ⌝ }
+{
+    let asked = refusal::ask(
+        Outcome::Passed,
+        Refusal::Plain(18),
+        !decimal::is_negative(strike),
+    );
+    refusal::ask(asked, Refusal::Plain(1), decimal::scale_fits(strike))
+}
+
+pub fn vanilla_payoff(put: bool, strike: Decimal) -> Payoff
+    ensures { λ r. ⌜ r ≡ vanillaAt put strike ⌝ }
+{
+    let converted = decimal::double_of(strike);
+    if put {
+        return Payoff::Vanilla {
+            style: Style::Put,
+            strike: converted,
+        };
+    }
+    Payoff::Vanilla {
+        style: Style::Call,
+        strike: converted,
+    }
+}
+
+// Question 19.
+fn paths_pass(mirrored: bool, paths: usize) -> bool
+    ensures { λ r. ⌜ r ≡ pathsPass mirrored paths ⌝ }
+{
+    2 <= paths && paths <= 65536 && (!mirrored || paths % 2 == 0)
+}
+
+fn draws_needed(mirrored: bool, paths: usize, total: usize) -> usize
+    requires { ⌜ (paths ≤ 65536) × (total ≤ 4096) ⌝ }
+    ensures { λ r. ⌜ r ≡ drawsNeeded mirrored paths total ⌝ }
+{
+    if mirrored {
+        return paths / 2 * total;
+    }
+    paths * total
+}
+
+// Questions 19 and 20. No product is taken before the paths are known to be few, so none wraps.
+fn path_questions(schedule: Schedule, mirrored: bool, paths: usize, drawn: usize) -> Outcome
+    requires { ⌜ schedule .total ≤ 4096 ⌝ }
+    ensures { λ r. ⌜ r ≡ firstNo (pathQuestions schedule mirrored paths drawn) ⌝ }
+{
+    if !paths_pass(mirrored, paths) {
+        return Outcome::Refused(Refusal::Plain(19));
+    }
+    let needed = draws_needed(mirrored, paths, schedule.total);
+    refusal::ask(Outcome::Passed, Refusal::Plain(20), drawn == needed)
+}
+
+// Questions 19 to 21, with so many draws and a table of so many doubles lent.
+pub fn batch_questions(batch: Batch, drawn: usize, lent: usize) -> Outcome
+    requires { ⌜ Laid (batch .simulation .schedule) ⌝ }
+    ensures { λ r. ⌜ r ≡ firstNo (batchQuestions (batch .simulation .schedule)
+        (batch .mirrored) (batch .paths) drawn lent) ⌝ }
+{
+    let simulation = batch.simulation;
+    let schedule = simulation.schedule;
+    let asked = path_questions(schedule, batch.mirrored, batch.paths, drawn);
+    if let Outcome::Refused(refusal) = asked {
+        return Outcome::Refused(refusal);
+    }
+    let rows = batch.paths * schedule.count;
+    refusal::ask(Outcome::Passed, Refusal::Plain(21), lent == rows)
+}

@@ -1,0 +1,72 @@
+-- `tally::with_rows` meets its contract. Assumes nothing.
+use mathlib.Core.Path.{_≡_, refl, _∙_, ap}
+use Prim.Native.Nat.{_+_, _-_, _≤_}
+use native.Mathlib.Nat.{div-le-self}
+use lib.ListN.{length}
+use native.Mathlib.Omega.{arith}
+use borrow.Author.Needs.{needs}
+use Rattle.paths.specs.Inner.Handed.{withRows}
+use Rattle.estimates.specs.Payoff.{underlyingOf}
+use Rattle.paths.proofs.Columns.{row-within}
+use Rattle.paths.proofs.Tallying.{rows-more}
+use Rattle.paths.proofs.tally.with_rows.Statement.{statement}
+use Rattle.paths.proofs.tally.with_rows.Tie as tie
+
+abbrev Inv-loop : tie.InvT-loop
+Inv-loop payoff observed rows count paths sum₀ path₀ sum path =
+    (path ≤ paths) × (sum ≡ withRows sum₀ payoff observed rows count path)
+
+abbrev μ-loop : tie.MeasureT-loop
+μ-loop payoff observed rows count paths sum₀ path₀ sum path = paths - path
+
+div-paths : tie.Need-div-paths Inv-loop μ-loop
+div-paths c = c .before .pre
+
+loop-holds : tie.Need-loop-holds Inv-loop μ-loop
+unfolding withRows
+loop-holds c = (search needs, refl)
+
+add-path : tie.Need-add-path Inv-loop μ-loop
+add-path c = omega (arith, c .loop-test .taken, div-le-self (length (c .before .before .before .args .rows .now)) (c .before .before .before .args .count))
+
+last-observation-requires : tie.Need-last-observation-requires Inv-loop μ-loop
+last-observation-requires c κs =
+    let given = c .before .before .before in
+    (given .pre, omega arith, row-within (given .args .count) _ (c .loop-test .taken))
+
+underlying-of-requires : tie.Need-underlying-of-requires Inv-loop μ-loop
+underlying-of-requires c κs = search needs
+
+with-path-requires : tie.Need-with-path-requires Inv-loop μ-loop
+with-path-requires c κs = search needs
+
+loop-less : tie.Need-loop-less Inv-loop μ-loop
+loop-less c = omega arith
+
+loop-again : tie.Need-loop-again Inv-loop μ-loop
+loop-again c =
+    let at = c .before .before .before .before in (
+      omega arith,
+      rows-more _ _ _ _ _ (at .loop .path) (at .loop .inv .1) (c .before .underlying-of .ensures ∙ ap (underlyingOf (at .before .before .args .observed)) (c .before .before .last-observation .ensures)) (c .with-path .ensures),
+    )
+
+returns : tie.Need-returns Inv-loop μ-loop
+returns c =
+    let at = c .before in
+    at .loop .inv .1 ∙ ap (withRows _ _ _ _ _) (omega (arith, at .loop .inv .0, c .loop-test .left))
+
+pub with-rows-spec : {M : Type 1} → statement M
+with-rows-spec =
+    tie.close
+    (tie.spec
+    Inv-loop
+    μ-loop
+    div-paths
+    loop-holds
+    add-path
+    last-observation-requires
+    underlying-of-requires
+    with-path-requires
+    loop-less
+    loop-again
+    returns)

@@ -1,0 +1,114 @@
+// The path and step loops.
+ghost use Rattle.walks.specs.Inner.Handed.{batchOf};
+ghost use Rattle.paths.specs.Inner.Handed.{Prepared, BatchRun};
+use crate::Run;
+use crate::Walked;
+use crate::tally;
+use estimates::Payoff;
+use estimates::welford;
+use groups::Together;
+use model::Finiteness;
+use model::scheme;
+use refusal::Refusal;
+use walks::Batch;
+
+// Every path in turn, step by step, up to the first step that is not finite. `observations` has a
+// row a path and a column a segment. Four paths at a time are walked side by side where that is
+// sure to give what the plain loop gives; a group of which that cannot be said goes through the
+// plain loop. What a path shows the payoff is added as the path ends.
+pub fn run_paths(batch: Batch, payoff: Payoff, draws: &[f64], observations: &mut [f64]) -> Run
+    requires { ⌜ Prepared batch (now draws) (now observations) ⌝ }
+    ensures { λ r. ⌜ BatchRun (batchOf batch (now (draws .entry))) payoff
+        (now (observations .entry)) (now (observations .exit)) r ⌝ }
+{
+    let mirrored = batch.mirrored;
+    let paths = batch.paths;
+    let observation = batch.observation;
+    let observed = observation.observed;
+    let simulation = batch.simulation;
+    let k = simulation.kernel;
+    let p = simulation.raw;
+    let start = simulation.start;
+    let sched = simulation.schedule;
+    let total = sched.total;
+    let count = sched.count;
+    let first = scheme::rates_at(k, sched, 0);
+    let mut sums = welford::no_paths();
+    let mut failed = Run::Done(Walked {
+        non_positive: 0,
+        steps: 0,
+        tally: sums,
+    });
+    let mut steps: u64 = 0;
+    let mut non_positive: u64 = 0;
+    let mut path: usize = 0;
+    let mut next_group: usize = 0;
+    'paths: while path < paths {
+        if next_group <= path && path + 4 <= paths {
+            let mut rows = [0.0; 256];
+            match groups::walk_four(batch, path, draws, &mut rows[..]) {
+                Together::Walked { non_positive: fell } => {
+                    groups::write_rows(&rows[..4 * count], path * count, observations);
+                    sums = tally::with_rows(sums, payoff, observed, &rows[..4 * count], count);
+                    steps += 4 * (total as u64);
+                    non_positive += fell;
+                    path += 4;
+                    continue 'paths;
+                }
+                Together::Unsure => {
+                    next_group = path + 4;
+                }
+            }
+        }
+        let mut s = start;
+        let mut rates = first;
+        let mut segment: usize = 0;
+        let mut at: usize = 0;
+        let mut low = false;
+        while at < total {
+            let g = walks::draw_at(mirrored, draws, total, path, at);
+            s = scheme::step(k, p, s, g, rates);
+            at += 1;
+            steps += 1;
+            match scheme::ensure_finite(s) {
+                Finiteness::NonFinite(quantity) => {
+                    let number = path as u64 + 1;
+                    failed = Run::NonFinite {
+                        refusal: Refusal::NonFinite {
+                            path: number,
+                            step: at as u64,
+                            quantity: quantity,
+                            steps: steps,
+                        },
+                        steps: steps,
+                    };
+                    break 'paths;
+                }
+                Finiteness::Finite => {}
+            }
+            if s.spot <= 0.0 {
+                low = true;
+            }
+            if at == sched.last[segment] {
+                observations[path * count + segment] = walks::observe(observation, s);
+                segment += 1;
+                rates = scheme::rates_at(k, sched, segment);
+            }
+        }
+        if low {
+            non_positive += 1;
+        }
+        let begin = path * count;
+        let end = begin + count;
+        sums = tally::with_rows(sums, payoff, observed, &observations[begin..end], count);
+        path += 1;
+    }
+    if path < paths {
+        return failed;
+    }
+    Run::Done(Walked {
+        non_positive: non_positive,
+        steps: steps,
+        tally: sums,
+    })
+}
