@@ -9,6 +9,7 @@ ghost use Rattle.generator_rows.specs.Inner.Appended.{Appended};
 ghost use Rattle.generator_rows.specs.State.{dimension, pairAt, joined, pairsOfRow, pairsOfRows};
 ghost use Rattle.generator_rows.specs.Rows.{varianceRow, meanRow, pairRow};
 ghost use Rattle.generator.specs.Generator.{generator};
+use generator_rows::state;
 use model::Kernel;
 use model::RawParams;
 
@@ -91,10 +92,12 @@ fn store_pairs(
 
 // The whole generator: the rows of the means, of the pairs, of the integral, which is E[V], and of
 // the constant.
-pub fn fill(k: Kernel, p: RawParams, window: f64, dim: usize, work: &mut [f64])
-    requires { ⌜ (k .n ≤ 10) × (dim ≡ dimension (k .n)) × (dim * dim ≤ length (now work)) ⌝ }
-    ensures { λ _. ⌜ take (dim * dim) (now (work .exit)) ≡ generator (kernelInUse k) p window ⌝ }
+pub fn fill(k: Kernel, p: RawParams, window: f64, work: &mut [f64])
+    requires { ⌜ (k .n ≤ 10) × (dimension (k .n) * dimension (k .n) ≤ length (now work)) ⌝ }
+    ensures { λ _. ⌜ take (dimension (k .n) * dimension (k .n)) (now (work .exit))
+        ≡ generator (kernelInUse k) p window ⌝ }
 {
+    let dim = state::dimension_of(k.n);
     let variance = generator_rows::variance_row(k, p);
     store_means(k, p, window, dim, work);
     store_pairs(k, p, variance, window, dim, work);

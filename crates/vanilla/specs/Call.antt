@@ -1,74 +1,96 @@
--- The vanilla and the mirrored vanilla batch: questions, answer and observations, for all inputs.
+-- The vanilla batch, ordinary or mirrored: its questions, its answer and its claim, for all inputs.
 -- Definitions only.
-use mathlib.Core.Path.{_≡_}
-use mathlib.Core.Bool.{Bool}
-use mathlib.Core.List.{List, _++_}
+use mathlib.Core.List.{List, [], _∷_, _++_}
 use Prim.Native.Nat.{ℕ}
+use lib.ListN.{length}
 use lib.Ieee.{Float}
-use Rattle.decimal.specs.declared.Decimal.{Decimal}
-use Rattle.decimal.specs.Decimal.{value}
-use Rattle.refusal.specs.declared.Outcome.the-variants.{Passed}
-use Rattle.refusal.specs.Questions.{Question, firstNo, onceAsked, writtenOnceAsked}
+use Rattle.numeric.specs.Double.{plusZero}
+use Rattle.refusal.specs.Refusal.{numberOf, placeOf, noPlace}
+use Rattle.refusal.specs.Questions.{Question, firstNo}
+use Rattle.model.specs.Parameters.{startOf}
 use Rattle.model.specs.Schedule.{scheduleOf}
-use Rattle.model.specs.Simulation.{Model}
+use Rattle.model.specs.Simulation.{Given, simulationOf}
 use Rattle.doors.specs.Questions.{modelQuestions}
 use Rattle.walks.specs.declared.Observed.the-variants.{Spot}
-use Rattle.batch.specs.declared.Payoff.{Payoff}
-use Rattle.batch.specs.declared.Payoff.the-variants.{Vanilla}
-use Rattle.walks.specs.Batch.{Batch}
-use Rattle.batch.specs.Run.{tableAfter}
-use Rattle.batch.specs.Claim.{BatchAnswer, BatchClaim}
-use Rattle.calls.specs.declared.Priced.{Priced}
-use Rattle.calls.specs.Batches.{strikeQuestions, batchQuestions, styleOf, batchFor}
-use Rattle.calls.specs.Batches.{refusedAfter, pricedRun}
+use Rattle.walks.specs.Batch.{Batch, batchOn}
+use Rattle.estimates.specs.declared.Payoff.{Payoff}
+use Rattle.batch.specs.declared.Priced.{Priced}
+use Rattle.batch.specs.declared.Priced.the-variants.{Price, Refused}
+use Rattle.batch.specs.Questions.{strikeQuestions, vanillaAt, pathQuestions, batchQuestions}
+use Rattle.batch.specs.Claim.{BatchAnswer}
+use Rattle.batch.specs.Answered.{BatchAnswered}
+use Rattle.vanilla.specs.declared.Order.{Order}
+use Rattle.vanilla.specs.declared.Estimate.{Estimate}
 
--- What a vanilla batch is given: a model, style, strike, mirroring, paths and draws.
+-- Rule 15.3: a model, an order and draws
 pub record VanillaInputs : Type 0 where
-  pub model : Model
-  pub put : Bool
-  pub strike : Decimal
-  pub mirrored : Bool
-  pub paths : ℕ
+  pub given : Given
+  pub order : Order
   pub draws : List Float
 
-abbrev pub vanillaInputs : Model → Bool → Decimal → Bool → ℕ → List Float → VanillaInputs
-vanillaInputs model put strike mirrored paths draws =
-    record {
-      model = model;
-      put = put;
-      strike = strike;
-      mirrored = mirrored;
-      paths = paths;
-      draws = draws;
-    }
+abbrev pub vanillaInputs : Given → Order → List Float → VanillaInputs
+vanillaInputs given order draws = record { given = given; order = order; draws = draws }
 
-unfoldable pub vanillaQuestions : VanillaInputs → List Float → List Question
-unfolding modelQuestions batchQuestions scheduleOf
+-- Rule 15.3: those of the model, of the strike and of the batch, with a table of so many doubles
+-- lent
+unfoldable pub vanillaQuestions : VanillaInputs → ℕ → List Question
+unfolding modelQuestions pathQuestions startOf scheduleOf
 vanillaQuestions i lent =
-    modelQuestions (i .model)
-    ++ strikeQuestions (i .strike)
-    ++ batchQuestions (scheduleOf (i .model .segments)) (i .mirrored) (i .paths) (i .draws) lent
+    modelQuestions (i .given)
+    ++ strikeQuestions (i .order .strike)
+    ++ batchQuestions (simulationOf (i .given) .schedule) (i .order .mirrored) (i .order .paths)
+    (length (i .draws)) lent
 
--- "spot for vanillas"
+-- Rule 15.3: a vanilla observes the spot
 abbrev pub vanillaBatch : VanillaInputs → Batch
-vanillaBatch i = batchFor (i .model) (i .mirrored) (i .paths) (i .draws) (λ s. s .spot)
+vanillaBatch i =
+    batchOn (simulationOf (i .given)) Spot (λ s. s .spot) (i .order .mirrored) (i .order .paths)
+    (i .draws)
 
 abbrev pub vanillaPayoff : VanillaInputs → Payoff
-vanillaPayoff i = Vanilla (styleOf (i .put)) (value (i .strike))
+vanillaPayoff i = vanillaAt (i .order .put) (i .order .strike)
 
-unfoldable pub vanillaCall : VanillaInputs → List Float → Priced
-unfolding vanillaQuestions batchFor pricedRun
-vanillaCall i lent =
-    onceAsked (firstNo (vanillaQuestions i lent)) (refusedAfter 0)
-    (pricedRun Spot (vanillaBatch i) (vanillaPayoff i))
+-- Rules 17.1 and 17.2: price and mean terminal spot, each with its standard error, paths,
+-- non-positive paths and the steps taken; at a refusal zeros, but for the steps
+abbrev pub written : Priced → Estimate
+written (Price report) =
+    record {
+      number = 0;
+      place = noPlace;
+      price = report .estimates .payoff .mean;
+      «price_error» = report .estimates .payoff .error;
+      «spot_mean» = report .estimates .underlying .mean;
+      «spot_error» = report .estimates .underlying .error;
+      paths = report .paths;
+      «non_positive» = report .«non_positive»;
+      steps = report .steps;
+    }
+written (Refused refusal steps) =
+    record {
+      number = numberOf refusal;
+      place = placeOf refusal;
+      price = plusZero;
+      «price_error» = plusZero;
+      «spot_mean» = plusZero;
+      «spot_error» = plusZero;
+      paths = 0;
+      «non_positive» = 0;
+      steps = steps;
+    }
 
-unfoldable pub vanillaTable : VanillaInputs → List Float → List Float
-unfolding vanillaQuestions batchFor tableAfter
-vanillaTable i lent =
-    writtenOnceAsked (firstNo (vanillaQuestions i lent)) lent (tableAfter (vanillaBatch i) lent)
+-- Rule 18.4: what the claim speaks of
+abbrev pub read : Estimate → BatchAnswer
+read a =
+    record {
+      number = a .number;
+      place = a .place;
+      doubles = a .price ∷ a .«price_error» ∷ a .«spot_mean» ∷ a .«spot_error» ∷ [];
+      counts = a .paths ∷ a .«non_positive» ∷ [];
+      steps = a .steps;
+    }
 
--- "An admitted batch is one that passes every question asked of it before 22": the claim of each
-unfoldable pub VanillaClaim : VanillaInputs → List Float → List Float → BatchAnswer → Type 0
-VanillaClaim i lent after answer =
-    firstNo (vanillaQuestions i lent) ≡ Passed
-    → BatchClaim (vanillaBatch i) Spot (vanillaPayoff i) lent after answer
+-- Rules 15.3, 16.3 and 18.3: the answer, the table of observations and the claim
+abbrev pub VanillaAnswered : VanillaInputs → List Float → List Float → Estimate → Type 0
+VanillaAnswered i lent after r =
+    BatchAnswered written read (firstNo (vanillaQuestions i (length lent))) (vanillaBatch i)
+    (vanillaPayoff i) lent after r

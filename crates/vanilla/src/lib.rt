@@ -1,78 +1,108 @@
-// Pricing a vanilla batch, mirrored or not.
+// The vanilla call: a batch of calls or puts on the spot, ordinary or mirrored.
 ghost use mathlib.Core.Path.{_≡_};
 ghost use Rattle.model.specs.Simulation.{given};
-ghost use Rattle.calls.specs.Batches.{answerOf};
-ghost use Rattle.calls.specs.Vanilla.{vanillaInputs, vanillaCall, vanillaTable, VanillaClaim};
-use crate::Priced;
-use crate::batch_doors;
-use crate::pricing;
+ghost use Rattle.vanilla.specs.Call.{vanillaInputs, written, VanillaAnswered};
+use batch::Priced;
+use batch::pricing;
+use batch::questions;
 use decimal::Decimal;
 use model::Params;
 use model::Segments;
 use refusal::Outcome;
-use walks::Observed;
+use walks::Batch;
+use walks::Observation;
 
-// A vanilla observes the spot, so no form of the VIX is looked at.
-pub fn price_vanilla(
+// What is priced: a call or a put at its strike, over so many paths.
+pub struct Order {
+    pub put: bool,
+    pub strike: Decimal,
+    pub mirrored: bool,
+    pub paths: usize,
+}
+
+// The values of a vanilla batch, in the order in which they are reported. At a refusal they are
+// zeros, but for the steps taken.
+#[repr(C)]
+pub struct Estimate {
+    pub number: u32,
+    pub place: [u64; 4],
+    pub price: f64,
+    pub price_error: f64,
+    pub spot_mean: f64,
+    pub spot_error: f64,
+    pub paths: u64,
+    pub non_positive: u64,
+    pub steps: u64,
+}
+
+fn estimate(priced: Priced) -> Estimate
+    ensures { λ r. ⌜ r ≡ written priced ⌝ }
+{
+    match priced {
+        Priced::Price(report) => {
+            let estimates = report.estimates;
+            let payoff = estimates.payoff;
+            let spot = estimates.underlying;
+            Estimate {
+                number: 0,
+                place: [0; 4],
+                price: payoff.mean,
+                price_error: payoff.error,
+                spot_mean: spot.mean,
+                spot_error: spot.error,
+                paths: report.paths,
+                non_positive: report.non_positive,
+                steps: report.steps,
+            }
+        }
+        Priced::Refused { refusal, steps } => {
+            let number = refusal::number(refusal);
+            let place = refusal::place(refusal);
+            Estimate {
+                number: number,
+                place: place,
+                price: 0.0,
+                price_error: 0.0,
+                spot_mean: 0.0,
+                spot_error: 0.0,
+                paths: 0,
+                non_positive: 0,
+                steps: steps,
+            }
+        }
+    }
+}
+
+// A row of observations a path, a column a segment.
+pub fn price(
     weights: &[f64],
     discounts: &[f64],
     params: Params,
     segments: Segments,
-    put: bool,
-    strike: Decimal,
-    mirrored: bool,
-    paths: usize,
+    order: Order,
     draws: &[f64],
-    seen: &mut [f64],
-) -> Priced
-    ensures answer { λ r. ⌜ r ≡ vanillaCall
+    observations: &mut [f64],
+) -> Estimate
+    ensures { λ r. ⌜ VanillaAnswered
         (vanillaInputs (given (now (weights .entry)) (now (discounts .entry)) params segments)
-        put strike mirrored paths (now (draws .entry)))
-        (now (seen .entry)) ⌝ }
-    ensures table { λ r. ⌜ now (seen .exit) ≡ vanillaTable
-        (vanillaInputs (given (now (weights .entry)) (now (discounts .entry)) params segments)
-        put strike mirrored paths (now (draws .entry)))
-        (now (seen .entry)) ⌝ }
-    ensures claim { λ r. ⌜ VanillaClaim
-        (vanillaInputs (given (now (weights .entry)) (now (discounts .entry)) params segments)
-        put strike mirrored paths (now (draws .entry)))
-        (now (seen .entry)) (now (seen .exit)) (answerOf Observed.Spot r) ⌝ }
+        order (now (draws .entry)))
+        (now (observations .entry)) (now (observations .exit)) r ⌝ }
 {
-    let prepared = doors::prepare(weights, discounts, params, segments);
-    let first = prepared.outcome;
-    let schedule = prepared.schedule;
-    match refusal::or_later(first, batch_doors::strike_questions(strike)) {
-        Outcome::Refused(refusal) => {
-            return Priced::Refused {
-                refusal: refusal,
-                steps: 0,
-            };
-        }
-        Outcome::Passed => {}
+    let door = doors::prepare(weights, discounts, params, segments);
+    let first = door.outcome;
+    let asked = refusal::or_later(first, questions::strike_questions(order.strike));
+    if let Outcome::Refused(refusal) = asked {
+        return estimate(Priced::Refused {
+            refusal: refusal,
+            steps: 0,
+        });
     }
-    match batch_doors::batch_questions(schedule, mirrored, paths, draws, seen) {
-        Outcome::Refused(refusal) => {
-            return Priced::Refused {
-                refusal: refusal,
-                steps: 0,
-            };
-        }
-        Outcome::Passed => {}
-    }
-    let kernel = prepared.kernel;
-    let raw = prepared.raw;
-    let start = prepared.start;
-    pricing::run_batch(
-        kernel,
-        raw,
-        start,
-        schedule,
-        Observed::Spot,
-        vix::no_form(0),
-        pricing::vanilla_payoff(put, strike),
-        mirrored,
-        paths,
-        draws,
-        seen,
-    )
+    let batch = Batch {
+        simulation: door.simulation,
+        observation: Observation::of_spot(),
+        mirrored: order.mirrored,
+        paths: order.paths,
+    };
+    let payoff = questions::vanilla_payoff(order.put, order.strike);
+    estimate(pricing::price(batch, payoff, draws, observations))
 }

@@ -4,7 +4,7 @@ use mathlib.Core.Bool.{Bool, true, false, cond}
 use mathlib.Core.List.{List, [], _∷_}
 use Prim.Native.Nat.{ℕ, _*_}
 use borrow.Author.Tests.{eqb-true}
-use lib.ListN.{length, take}
+use lib.ListN.{length}
 use lib.Ieee.{Float}
 use Rattle.decimal.specs.declared.Decimal.{Decimal}
 use Rattle.decimal.specs.Decimal.{value}
@@ -75,17 +75,15 @@ module _ (k : Kernel) (p : RawParams) (window : Decimal) (lent : List Float) whe
   -- they are passed, and the workspace begins with the generator
   module _
       (right : firstNo (windowQuestions (k .n) window (length lent)) ≡ Passed)
-      {span : Float} (converted : span ≡ value window) {dim : ℕ} (d : dim ≡ dimension (k .n))
-      (before : List Float) (filled : take (dim * dim) before ≡ generator k p span)
+      {span : Float} (converted : span ≡ value window) (before : List Float)
+      (filled : matrixAt (dimension (k .n)) 0 before ≡ generator k p span)
     where
       of-generator : matrixAt (dimension (k .n)) 0 before ≡ generator k p (value window)
-      of-generator =
-          subst (λ (n : ℕ). take (n * n) before ≡ generator k p span) d filled
-          ∙ ap (generator k p) converted
+      of-generator = filled ∙ ap (generator k p) converted
 
       module _
-          {answer : Exponentiated} (told : answer ≡ exponentiated dim (matrixAt dim 0 before))
-          (after : List Float)
+          {dim : ℕ} (d : dim ≡ dimension (k .n)) {answer : Exponentiated}
+          (told : answer ≡ exponentiated dim (matrixAt dim 0 before)) (after : List Float)
         where
           outcome-is : outcome answer ≡ firstNo (formQuestions k p window (length lent))
           unfolding exponentiated momentsFinite formQuestions

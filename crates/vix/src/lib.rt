@@ -140,8 +140,8 @@ pub fn prepare(k: Kernel, p: RawParams, window: Decimal, workspace: &mut [f64]) 
         return refused(refusal);
     }
     let span = decimal::double_of(window);
+    generator::fill(k, p, span, workspace);
     let dim = state::dimension_of(n);
-    generator::fill(k, p, span, dim, workspace);
     match exponential::exponential(dim, workspace) {
         Exponentiated::NotFinite => refused(Refusal::Plain(17)),
         Exponentiated::Done(_) => FormDoor {

@@ -45,6 +45,17 @@ abbrev pub drawsNeeded : Bool → ℕ → ℕ → ℕ
 drawsNeeded true paths total = paths / 2 * total
 drawsNeeded false paths total = paths * total
 
+-- Rule 9.1: the batch of a simulation over a list of draws
+abbrev pub batchOn : Simulation → Observed → (State → Float) → Bool → ℕ → List Float → Batch
+batchOn simulation observed observe mirrored paths draws =
+    record {
+      simulation = simulation;
+      observed = observed;
+      observe = observe;
+      paths = paths;
+      draw = drawOf mirrored draws (simulation .schedule .total);
+    }
+
 -- Rule 9.7: whether a spot is at or below zero after one of the first k steps
 unfoldable pub nonPositiveBy : Walk → ℕ → Bool
 unfolding stateAfter le

@@ -11,7 +11,7 @@ use Rattle.walks.specs.declared.Batch.{Batch as Handed}
 use Rattle.walks.specs.declared.Observation.{Observation}
 use Rattle.walks.specs.declared.Observed.{Observed}
 use Rattle.walks.specs.declared.Observed.the-variants.{Spot, VixSquared}
-use Rattle.walks.specs.Batch.{Batch, drawOf}
+use Rattle.walks.specs.Batch.{Batch, batchOn}
 
 -- what is read off a state
 abbrev pub observationOf : Observed → Vix → State → Float
@@ -23,10 +23,5 @@ observeBy o s = observationOf (o .observed) (vixInUse (o .form)) s
 
 abbrev pub batchOf : Handed → List Float → Batch
 batchOf b draws =
-    record {
-      simulation = simulationInUse (b .simulation);
-      observed = b .observation .observed;
-      observe = observeBy (b .observation);
-      paths = b .paths;
-      draw = drawOf (b .mirrored) draws (b .simulation .schedule .total);
-    }
+    batchOn (simulationInUse (b .simulation)) (b .observation .observed)
+    (observeBy (b .observation)) (b .mirrored) (b .paths) draws

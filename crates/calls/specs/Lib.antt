@@ -1,3 +1,0 @@
-pub mod Batches
-pub mod Vanilla
-pub mod VixBatch
