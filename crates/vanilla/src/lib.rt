@@ -35,7 +35,7 @@ pub struct Estimate {
     pub steps: u64,
 }
 
-fn estimate(priced: Priced) -> Estimate
+fn answer(priced: Priced) -> Estimate
     ensures { λ r. ⌜ r ≡ written priced ⌝ }
 {
     match priced {
@@ -92,7 +92,7 @@ pub fn price(
     let first = door.outcome;
     let asked = refusal::or_later(first, questions::strike_questions(order.strike));
     if let Outcome::Refused(refusal) = asked {
-        return estimate(Priced::Refused {
+        return answer(Priced::Refused {
             refusal: refusal,
             steps: 0,
         });
@@ -104,5 +104,5 @@ pub fn price(
         paths: order.paths,
     };
     let payoff = questions::vanilla_payoff(order.put, order.strike);
-    estimate(pricing::price(batch, payoff, draws, observations))
+    answer(pricing::price(batch, payoff, draws, observations))
 }
