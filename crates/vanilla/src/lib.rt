@@ -97,9 +97,11 @@ pub fn price(
             steps: 0,
         });
     }
+    let simulation = door.simulation;
+    let observation = Observation::of_spot();
     let batch = Batch {
-        simulation: door.simulation,
-        observation: Observation::of_spot(),
+        simulation: simulation,
+        observation: observation,
         mirrored: order.mirrored,
         paths: order.paths,
     };

@@ -1,103 +1,124 @@
--- The VIX batch: questions, answer and observations, for all inputs. Definitions only.
-use mathlib.Core.Path.{_≡_}
+-- The VIX batch: its questions, its answer and its claim, for all inputs. Definitions only.
 use mathlib.Core.Bool.{false, cond}
-use mathlib.Core.List.{List, [], _++_}
+use mathlib.Core.List.{List, [], _∷_, _++_}
 use Prim.Native.Nat.{ℕ}
 use lib.ListN.{length}
 use lib.Ieee.{Float}
-use Rattle.decimal.specs.declared.Decimal.{Decimal}
+use Rattle.numeric.specs.Double.{plusZero}
 use Rattle.decimal.specs.Decimal.{value}
-use Rattle.refusal.specs.declared.Outcome.the-variants.{Passed}
-use Rattle.refusal.specs.Questions.{Question, firstNo, onceAsked, writtenOnceAsked}
-use Rattle.model.specs.declared.Kernel.{Kernel}
-use Rattle.model.specs.declared.RawParams.{RawParams}
-use Rattle.model.specs.Kernel.{kernelOf}
-use Rattle.model.specs.Parameters.{rawParams}
+use Rattle.refusal.specs.Refusal.{numberOf, placeOf, noPlace}
+use Rattle.refusal.specs.Questions.{Question, firstNo, KeptUnlessPassed}
+use Rattle.model.specs.Parameters.{startOf}
 use Rattle.model.specs.Schedule.{scheduleOf}
-use Rattle.model.specs.Simulation.{Model}
+use Rattle.model.specs.Simulation.{Given, simulationOf}
 use Rattle.doors.specs.Questions.{modelQuestions}
 use Rattle.vix.specs.declared.Vix.{Vix}
 use Rattle.vix.specs.Form.{rawSquared}
 use Rattle.vix.specs.Build.{vixOf}
 use Rattle.vix.specs.Questions.{windowQuestions, formQuestions}
 use Rattle.walks.specs.declared.Observed.the-variants.{VixSquared}
-use Rattle.batch.specs.declared.Payoff.{Payoff}
-use Rattle.batch.specs.declared.Payoff.the-variants.{Future, Vanilla}
-use Rattle.walks.specs.Batch.{Batch}
-use Rattle.batch.specs.Run.{tableAfter}
-use Rattle.batch.specs.Claim.{BatchAnswer, BatchClaim}
-use Rattle.calls.specs.declared.Priced.{Priced}
-use Rattle.calls.specs.declared.VixPayoff.{VixPayoff}
-use Rattle.calls.specs.Batches.{strikeQuestions, batchQuestions, styleOf, batchFor}
-use Rattle.calls.specs.Batches.{refusedAfter, pricedRun}
+use Rattle.walks.specs.Batch.{Batch, batchOn}
+use Rattle.estimates.specs.declared.Payoff.{Payoff}
+use Rattle.estimates.specs.declared.Payoff.the-variants.{Future}
+use Rattle.batch.specs.declared.Priced.{Priced}
+use Rattle.batch.specs.declared.Priced.the-variants.{Price, Refused}
+use Rattle.batch.specs.Questions.{strikeQuestions, vanillaAt, pathQuestions, batchQuestions}
+use Rattle.batch.specs.Claim.{BatchAnswer}
+use Rattle.batch.specs.Answered.{BatchAnswered}
+use Rattle.vix_batch.specs.declared.VixPayoff.{VixPayoff}
+use Rattle.vix_batch.specs.declared.Order.{Order}
+use Rattle.vix_batch.specs.declared.VixEstimate.{VixEstimate}
 
--- What a VIX batch is given: a model, a window, a payoff, paths and draws.
+-- Rule 15.5: a model, an order and draws
 pub record VixBatchInputs : Type 0 where
-  pub model : Model
-  pub window : Decimal
-  pub payoff : VixPayoff
-  pub paths : ℕ
+  pub given : Given
+  pub order : Order
   pub draws : List Float
 
-abbrev pub vixBatchInputs : Model → Decimal → VixPayoff → ℕ → List Float → VixBatchInputs
-vixBatchInputs model window payoff paths draws =
-    record { model = model; window = window; payoff = payoff; paths = paths; draws = draws }
+abbrev pub vixBatchInputs : Given → Order → List Float → VixBatchInputs
+vixBatchInputs given order draws = record { given = given; order = order; draws = draws }
 
--- "The payoff is a future, or a vanilla with its style and its strike."
+-- Rule 13.6: a future, or a call or a put at its strike
 abbrev pub payoffFor : VixPayoff → Payoff
-payoffFor p = cond (p .future) Future (Vanilla (styleOf (p .put)) (value (p .strike)))
+payoffFor p = cond (p .future) Future (vanillaAt (p .put) (p .strike))
 
--- 18 and 1, of a vanilla payoff only
+-- Rule 14.9: of a future no strike is asked
 abbrev pub payoffQuestions : VixPayoff → List Question
 payoffQuestions p = cond (p .future) [] (strikeQuestions (p .strike))
 
--- what the form is made of
-abbrev pub kernelIn : VixBatchInputs → Kernel
-kernelIn i = kernelOf (i .model .weights) (i .model .discounts)
-
-abbrev pub paramsIn : VixBatchInputs → RawParams
-paramsIn i = rawParams (i .model .params)
-
--- the model's; 15, 1, 16 and 17; 18 and 1; 19 to 21, with a workspace of so many doubles
-unfoldable pub vixBatchQuestions : VixBatchInputs → ℕ → List Float → List Question
-unfolding modelQuestions formQuestions batchQuestions scheduleOf
+-- Rule 15.5: those of the model, of the form, of the payoff and of the batch, with a workspace and a
+-- table of so many doubles lent
+unfoldable pub vixBatchQuestions : VixBatchInputs → ℕ → ℕ → List Question
+unfolding modelQuestions formQuestions pathQuestions startOf scheduleOf
 vixBatchQuestions i workspace lent =
-    modelQuestions (i .model)
-    ++ formQuestions (kernelIn i) (paramsIn i) (i .window) workspace
-    ++ payoffQuestions (i .payoff)
-    ++ batchQuestions (scheduleOf (i .model .segments)) false (i .paths) (i .draws) lent
+    let s = simulationOf (i .given) in
+    modelQuestions (i .given)
+    ++ formQuestions (s .kernel) (s .raw) (i .order .window) workspace
+    ++ payoffQuestions (i .order .payoff)
+    ++ batchQuestions (s .schedule) false (i .order .paths) (length (i .draws)) lent
 
--- the form over the window
+-- Rule 13.1: the form over the window
 abbrev pub formOver : VixBatchInputs → Vix
-formOver i = vixOf (kernelIn i) (paramsIn i) (value (i .window))
+formOver i =
+    let s = simulationOf (i .given) in vixOf (s .kernel) (s .raw) (value (i .order .window))
 
--- "raw VIX squared for the VIX"
+-- Rule 15.5: a VIX batch observes the raw VIX squared, and is never mirrored
 abbrev pub vixBatch : VixBatchInputs → Batch
 vixBatch i =
-    batchFor (i .model) false (i .paths) (i .draws) (λ s. rawSquared (formOver i) (s .factors))
+    batchOn (simulationOf (i .given)) VixSquared (λ s. rawSquared (formOver i) (s .factors)) false
+    (i .order .paths) (i .draws)
 
-unfoldable pub vixBatchCall : VixBatchInputs → ℕ → List Float → Priced
-unfolding vixBatchQuestions vixOf batchFor pricedRun
-vixBatchCall i workspace lent =
-    onceAsked (firstNo (vixBatchQuestions i workspace lent)) (refusedAfter 0)
-    (pricedRun VixSquared (vixBatch i) (payoffFor (i .payoff)))
+-- Rules 17.1 and 17.2: payoff and index, each with its standard error, paths and the steps taken; at
+-- a refusal zeros, but for the steps
+abbrev pub written : Priced → VixEstimate
+written (Price report) =
+    record {
+      number = 0;
+      place = noPlace;
+      payoff = report .estimates .payoff .mean;
+      «payoff_error» = report .estimates .payoff .error;
+      index = report .estimates .underlying .mean;
+      «index_error» = report .estimates .underlying .error;
+      paths = report .paths;
+      steps = report .steps;
+    }
+written (Refused refusal steps) =
+    record {
+      number = numberOf refusal;
+      place = placeOf refusal;
+      payoff = plusZero;
+      «payoff_error» = plusZero;
+      index = plusZero;
+      «index_error» = plusZero;
+      paths = 0;
+      steps = steps;
+    }
 
-unfoldable pub vixBatchTable : VixBatchInputs → ℕ → List Float → List Float
-unfolding vixBatchQuestions vixOf batchFor tableAfter
-vixBatchTable i workspace lent =
-    writtenOnceAsked (firstNo (vixBatchQuestions i workspace lent)) lent
-    (tableAfter (vixBatch i) lent)
+-- Rule 18.4: what the claim speaks of
+abbrev pub read : VixEstimate → BatchAnswer
+read a =
+    record {
+      number = a .number;
+      place = a .place;
+      doubles = a .payoff ∷ a .«payoff_error» ∷ a .index ∷ a .«index_error» ∷ [];
+      counts = a .paths ∷ [];
+      steps = a .steps;
+    }
 
--- "An admitted batch is one that passes every question asked of it before 22": the claim of each
-unfoldable pub VixBatchClaim :
-    VixBatchInputs → ℕ → List Float → List Float → BatchAnswer → Type 0
-VixBatchClaim i workspace lent after answer =
-    firstNo (vixBatchQuestions i workspace lent) ≡ Passed
-    → BatchClaim (vixBatch i) VixSquared (payoffFor (i .payoff)) lent after answer
-
--- "Workspace contents are free once 16 passes": the questions up to it
-unfoldable pub throughSixteen : VixBatchInputs → ℕ → List Question
+-- Rule 16.5: the questions up to 16
+unfoldable pub throughWorkspace : VixBatchInputs → ℕ → List Question
 unfolding modelQuestions windowQuestions
-throughSixteen i workspace =
-    modelQuestions (i .model)
-    ++ windowQuestions (length (i .model .weights)) (i .window) workspace
+throughWorkspace i workspace =
+    modelQuestions (i .given)
+    ++ windowQuestions (length (i .given .weights)) (i .order .window) workspace
+
+-- Rules 15.5, 16.3, 16.5 and 18.3: the answer, the table of observations and the claim, and the
+-- workspace, which is free once 16 is passed
+pub record VixBatchAnswered (i : VixBatchInputs) (work workAfter lent after : List Float)
+    (r : VixEstimate) : Type 0 where
+  pub batch :
+      BatchAnswered written read
+      (firstNo (vixBatchQuestions i (length work) (length lent))) (vixBatch i)
+      (payoffFor (i .order .payoff)) lent after r
+  pub workspace :
+      KeptUnlessPassed (firstNo (throughWorkspace i (length work))) work workAfter

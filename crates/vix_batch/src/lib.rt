@@ -1,22 +1,84 @@
-// Pricing a VIX batch: a future or a vanilla on the index.
+// The VIX batch: a future, or calls or puts, on the index.
 ghost use mathlib.Core.Path.{_≡_};
-ghost use lib.ListN.{length};
-ghost use Rattle.refusal.specs.Questions.{firstNo, KeptUnlessPassed};
+ghost use Rattle.refusal.specs.Questions.{firstNo};
 ghost use Rattle.model.specs.Simulation.{given};
-ghost use Rattle.calls.specs.Batches.{answerOf};
-ghost use Rattle.calls.specs.VixBatch.{vixBatchInputs, payoffFor, payoffQuestions};
-ghost use Rattle.calls.specs.VixBatch.{vixBatchCall, vixBatchTable, VixBatchClaim};
-ghost use Rattle.calls.specs.VixBatch.{throughSixteen};
-use crate::Priced;
-use crate::VixPayoff;
-use crate::batch_doors;
-use crate::pricing;
-use batch::Payoff;
+ghost use Rattle.vix_batch.specs.Call.{vixBatchInputs, payoffFor, payoffQuestions};
+ghost use Rattle.vix_batch.specs.Call.{written, VixBatchAnswered};
+use batch::Priced;
+use batch::pricing;
+use batch::questions;
 use decimal::Decimal;
+use estimates::Payoff;
 use model::Params;
 use model::Segments;
 use refusal::Outcome;
-use walks::Observed;
+use walks::Batch;
+use walks::Observation;
+
+// A future on the index, or a vanilla on it with its style and its strike.
+#[repr(C)]
+pub struct VixPayoff {
+    pub future: bool,
+    pub put: bool,
+    pub strike: Decimal,
+}
+
+// What is priced: a payoff on the index over a window, over so many paths.
+pub struct Order {
+    pub window: Decimal,
+    pub payoff: VixPayoff,
+    pub paths: usize,
+}
+
+// The values of a VIX batch, in the order in which they are reported. At a refusal they are zeros,
+// but for the steps taken.
+#[repr(C)]
+pub struct VixEstimate {
+    pub number: u32,
+    pub place: [u64; 4],
+    pub payoff: f64,
+    pub payoff_error: f64,
+    pub index: f64,
+    pub index_error: f64,
+    pub paths: u64,
+    pub steps: u64,
+}
+
+fn answer(priced: Priced) -> VixEstimate
+    ensures { λ r. ⌜ r ≡ written priced ⌝ }
+{
+    match priced {
+        Priced::Price(report) => {
+            let estimates = report.estimates;
+            let payoff = estimates.payoff;
+            let index = estimates.underlying;
+            VixEstimate {
+                number: 0,
+                place: [0; 4],
+                payoff: payoff.mean,
+                payoff_error: payoff.error,
+                index: index.mean,
+                index_error: index.error,
+                paths: report.paths,
+                steps: report.steps,
+            }
+        }
+        Priced::Refused { refusal, steps } => {
+            let number = refusal::number(refusal);
+            let place = refusal::place(refusal);
+            VixEstimate {
+                number: number,
+                place: place,
+                payoff: 0.0,
+                payoff_error: 0.0,
+                index: 0.0,
+                index_error: 0.0,
+                paths: 0,
+                steps: steps,
+            }
+        }
+    }
+}
 
 // Questions 18 and 1 of the strike, which a future has not.
 fn payoff_questions(payoff: VixPayoff) -> Outcome
@@ -25,7 +87,7 @@ fn payoff_questions(payoff: VixPayoff) -> Outcome
     if payoff.future {
         return Outcome::Passed;
     }
-    batch_doors::strike_questions(payoff.strike)
+    questions::strike_questions(payoff.strike)
 }
 
 fn payoff_of(payoff: VixPayoff) -> Payoff
@@ -34,86 +96,54 @@ fn payoff_of(payoff: VixPayoff) -> Payoff
     if payoff.future {
         return Payoff::Future;
     }
-    pricing::vanilla_payoff(payoff.put, payoff.strike)
+    questions::vanilla_payoff(payoff.put, payoff.strike)
 }
 
-pub fn price_vix(
+// A row of raw VIX squared a path, a column a segment.
+pub fn price(
     weights: &[f64],
     discounts: &[f64],
     params: Params,
     segments: Segments,
-    window: Decimal,
-    payoff: VixPayoff,
-    paths: usize,
+    order: Order,
     draws: &[f64],
     workspace: &mut [f64],
-    seen: &mut [f64],
-) -> Priced
-    ensures answer { λ r. ⌜ r ≡ vixBatchCall
+    observations: &mut [f64],
+) -> VixEstimate
+    ensures { λ r. ⌜ VixBatchAnswered
         (vixBatchInputs (given (now (weights .entry)) (now (discounts .entry)) params segments)
-        window payoff paths (now (draws .entry)))
-        (length (now (workspace .entry))) (now (seen .entry)) ⌝ }
-    ensures table { λ r. ⌜ now (seen .exit) ≡ vixBatchTable
-        (vixBatchInputs (given (now (weights .entry)) (now (discounts .entry)) params segments)
-        window payoff paths (now (draws .entry)))
-        (length (now (workspace .entry))) (now (seen .entry)) ⌝ }
-    ensures claim { λ r. ⌜ VixBatchClaim
-        (vixBatchInputs (given (now (weights .entry)) (now (discounts .entry)) params segments)
-        window payoff paths (now (draws .entry)))
-        (length (now (workspace .entry))) (now (seen .entry)) (now (seen .exit))
-        (answerOf Observed.VixSquared r) ⌝ }
-    ensures workspace { λ r. ⌜ KeptUnlessPassed (firstNo (throughSixteen
-        (vixBatchInputs (given (now (weights .entry)) (now (discounts .entry)) params segments)
-        window payoff paths (now (draws .entry)))
-        (length (now (workspace .entry))))) (now (workspace .entry)) (now (workspace .exit)) ⌝ }
+        order (now (draws .entry)))
+        (now (workspace .entry)) (now (workspace .exit))
+        (now (observations .entry)) (now (observations .exit)) r ⌝ }
 {
-    let prepared = doors::prepare(weights, discounts, params, segments);
-    let first = prepared.outcome;
-    match first {
-        Outcome::Refused(refusal) => {
-            return Priced::Refused {
-                refusal: refusal,
-                steps: 0,
-            };
-        }
-        Outcome::Passed => {}
+    let model = doors::prepare(weights, discounts, params, segments);
+    let first = model.outcome;
+    if let Outcome::Refused(refusal) = first {
+        return answer(Priced::Refused {
+            refusal: refusal,
+            steps: 0,
+        });
     }
-    let kernel = prepared.kernel;
-    let raw = prepared.raw;
-    let start = prepared.start;
-    let schedule = prepared.schedule;
-    let door = vix::prepare(kernel, raw, window, workspace);
+    let simulation = model.simulation;
+    let kernel = simulation.kernel;
+    let raw = simulation.raw;
+    let door = vix::prepare(kernel, raw, order.window, workspace);
     let second = door.outcome;
-    match refusal::or_later(second, payoff_questions(payoff)) {
-        Outcome::Refused(refusal) => {
-            return Priced::Refused {
-                refusal: refusal,
-                steps: 0,
-            };
-        }
-        Outcome::Passed => {}
-    }
-    match batch_doors::batch_questions(schedule, false, paths, draws, seen) {
-        Outcome::Refused(refusal) => {
-            return Priced::Refused {
-                refusal: refusal,
-                steps: 0,
-            };
-        }
-        Outcome::Passed => {}
+    let wanted = order.payoff;
+    let asked = refusal::or_later(second, payoff_questions(wanted));
+    if let Outcome::Refused(refusal) = asked {
+        return answer(Priced::Refused {
+            refusal: refusal,
+            steps: 0,
+        });
     }
     let form = door.form;
-    pricing::run_batch(
-        kernel,
-        raw,
-        start,
-        schedule,
-        Observed::VixSquared,
-        form,
-        payoff_of(payoff),
-        false,
-        paths,
-        draws,
-        seen,
-    )
+    let observation = Observation::of_vix(form);
+    let batch = Batch {
+        simulation: simulation,
+        observation: observation,
+        mirrored: false,
+        paths: order.paths,
+    };
+    answer(pricing::price(batch, payoff_of(wanted), draws, observations))
 }
