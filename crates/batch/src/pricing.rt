@@ -118,12 +118,7 @@ fn priced_after(ran: Run, batch: Batch, observations: &[f64]) -> Priced
 }
 
 // The paths of a batch whose questions are passed, and what is made of them.
-fn price_admitted(
-    batch: Batch,
-    payoff: Payoff,
-    draws: &[f64],
-    observations: &mut [f64],
-) -> Priced
+fn price_admitted(batch: Batch, payoff: Payoff, draws: &[f64], observations: &mut [f64]) -> Priced
     requires { ⌜ Prepared batch (now draws) (now observations) ⌝ }
     ensures { λ r. ⌜ BatchPriced (batchOf batch (now (draws .entry))) payoff
         (now (observations .entry)) (now (observations .exit)) r ⌝ }

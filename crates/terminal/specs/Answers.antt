@@ -57,7 +57,6 @@ readVanilla a =
       steps = a .steps;
     }
 
-
 -- pricing a VIX batch: payoff and index, each with its standard error, paths and the steps taken;
 -- at a refusal only these are kept
 abbrev pub vixBatchAnswer : Priced → VixBatchAnswer

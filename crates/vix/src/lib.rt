@@ -13,8 +13,8 @@ ghost use Rattle.vix.specs.Inner.Form.{vixInUse, noForm, FormPrepared};
 mod form;
 
 use decimal::Decimal;
-use generator_rows::state;
 use exponential::Exponentiated;
+use generator_rows::state;
 use model::Kernel;
 use model::RawParams;
 use refusal::Outcome;

@@ -262,9 +262,9 @@ returns-3 c =
     let b = e .args .batch in (
       h .loop .inv .0 0 .wide,
       subst (λ (x : State). FourWalked (sideBatch (b .simulation .kernel) (b .simulation .raw) x (b .simulation .schedule) (b .observation) (b .mirrored) (b .paths) (e .args .draws .now)) (e .args .path) (h .loop .rows) (c .set-flags .result))
-      (all-start (h .before .before) 0 (omega arith))
-      (beside-done (laid-at e) (h .loop .inv .0 (b .paths)) (c .before .before .before .loop-test .left) _ (c .set-flags .ensures .0)
-      (c .set-flags .ensures .1) (c .before .before .all-finite .ensures (not-false _ (c .before .if3 .left)))),
+          (all-start (h .before .before) 0 (omega arith))
+          (beside-done (laid-at e) (h .loop .inv .0 (b .paths)) (c .before .before .before .loop-test .left) _ (c .set-flags .ensures .0)
+          (c .set-flags .ensures .1) (c .before .before .all-finite .ensures (not-false _ (c .before .if3 .left)))),
     )
 
 pub walk-four-spec : {M : Type 1} → statement M

@@ -1,21 +1,19 @@
+-- `payoff_questions` meets its contract. Assumes nothing.
+use mathlib.Core.Path.{_∙_}
+use Rattle.refusal.specs.Questions.{firstNo}
 use borrow.Author.Needs.{needs}
 use Rattle.vix_batch.proofs.payoff_questions.Statement.{statement}
 use Rattle.vix_batch.proofs.payoff_questions.Tie as tie
-use Rattle.vix_batch.proofs.payoff_questions.Reads as reads
-use Rattle.vix_batch.proofs.payoff_questions.Lts as lts
-use Rattle.batch.proofs.questions.strike_questions.Reads as strike-questions-reads
 
--- src/lib.rt:88:9
 returns : tie.Need-returns
-returns c = ?
+unfolding firstNo
+returns c = rw (c .if1 .taken)
 
--- src/lib.rt:90:5
 strike-questions-requires : tie.Need-strike-questions-requires
 strike-questions-requires c κs = search needs
 
--- src/lib.rt:84:1
 returns-2 : tie.Need-returns-2
-returns-2 c = ?
+returns-2 c = c .strike-questions .ensures ∙ rw (c .before .if1 .left)
 
 pub payoff-questions-spec : {M : Type 1} → statement M
 payoff-questions-spec = tie.close (tie.spec returns strike-questions-requires returns-2)
