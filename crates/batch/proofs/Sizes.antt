@@ -13,7 +13,8 @@ use borrow.Author.Tests.{leb-true, eqb-true}
 use Rattle.refusal.specs.declared.Outcome.{Outcome}
 use Rattle.refusal.specs.declared.Outcome.the-variants.{Passed, Refused}
 use Rattle.refusal.specs.declared.Refusal.the-variants.{Plain}
-use Rattle.refusal.specs.Questions.{Question, asked, firstNo, further}
+use Rattle.refusal.specs.Questions.{Question, asked, firstNo}
+use Rattle.refusal.specs.Inner.Asking.{further}
 use Rattle.refusal.proofs.Laws.{in-turn, passed-head, passed-tail, passed-first, passed-then}
 use Rattle.model.specs.declared.Schedule.{Schedule}
 use Rattle.walks.specs.declared.Batch.{Batch as Handed}

@@ -1,5 +1,5 @@
--- ±c / 10 ^ k rounded to a double is finite, and at most 2 ^ 96 in size: c / 10 ^ k lies between 2 ^ -94 and 2 ^ 96,
--- both are doubles, and rounding keeps the order. Assumes nothing.
+-- ±c / 10 ^ k rounded to a double is finite, and at most 2 ^ 96 in size: c / 10 ^ k lies between
+-- 2 ^ -94 and 2 ^ 96, both are doubles, and rounding keeps the order. Assumes nothing.
 use mathlib.Core.Path.{_≡_, refl, sym, ap}
 use mathlib.Core.Bool.{Bool, false}
 use Prim.Native.Nat.{ℕ, _*_, _/_, _^_, _≤_, _<_}

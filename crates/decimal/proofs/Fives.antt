@@ -1,5 +1,5 @@
--- A number of two words divided word by word, and a power of five divided out of it in parts: what one more part does to the quotient, and to whether all was exact.
--- Assumes nothing.
+-- A number of two words divided word by word, and a power of five divided out of it in parts: what
+-- one more part does to the quotient, and to whether all was exact. Assumes nothing.
 use mathlib.Core.Path.{_≡_, sym, ap, ap₂, _∙_}
 use mathlib.Core.Logic.{inl, inr}
 use Prim.Native.Nat.{ℕ, _+_, _-_, _*_, _/_, _%_, _^_, _≤_, _<_, min}
@@ -9,7 +9,7 @@ use lib.Dec.{lit<}
 use lib.Arith.{digits-div, digits-mod, mod-mul}
 use lib.Pow.{pow-add}
 use Rattle.decimal.specs.declared.divide.Quotient.{Quotient}
-use Rattle.decimal.specs.Steps.{wide, IsDividedOnce, IsQuotient}
+use Rattle.decimal.specs.Inner.Steps.{wide, IsDividedOnce, IsQuotient}
 
 pub five-pos : (k : ℕ) → 0 < 5 ^ k
 five-pos k = one-le-pow k 5 (zero-lt-suc 4)

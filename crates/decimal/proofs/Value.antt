@@ -1,5 +1,5 @@
--- The double of a Decimal, for the proofs of callers: which case it is, that it is finite, and its sign and size.
--- Assumes nothing.
+-- The double of a Decimal, for the proofs of callers: which case it is, that it is finite, and its
+-- sign and size. Assumes nothing.
 use mathlib.Core.Path.{_≡_, refl, sym, ap, ap₂, _∙_, subst}
 use mathlib.Core.Bool.{Bool, true, false, not, _&&_, _||_, cond, and-true, and-false}
 use Prim.Native.Nat.{ℕ, _*_, _^_, _≤_, _<_, zero-le}

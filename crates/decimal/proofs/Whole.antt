@@ -1,5 +1,6 @@
--- The conversion as a whole, over the numbers that its steps give: c * 2 ^ a is hi * 2 ^ 64 + lo with its highest bit at 127, that by 5 ^ k is qh * 2 ^ 64 + ql,
--- and this again, moved left by b, is w * 2 ^ 64 + l. Assumes nothing.
+-- The conversion as a whole, over the numbers that its steps give: c * 2 ^ a is hi * 2 ^ 64 + lo
+-- with its highest bit at 127, that by 5 ^ k is qh * 2 ^ 64 + ql, and this again, moved left by b,
+-- is w * 2 ^ 64 + l. Assumes nothing.
 use mathlib.Core.Path.{_≡_, sym, ap, _∙_, subst}
 use mathlib.Core.Bool.{Bool}
 use Prim.Native.Nat.{ℕ, suc, _+_, _-_, _*_, _/_, _%_, _^_, _≤_, _<_, min}
@@ -10,7 +11,7 @@ use lib.Arith.{digits-lt}
 use lib.Pow.{pow-add, pow-mono}
 use lib.Ieee.{binary64, units, round}
 use lib.Ieee.Nearest.{closest}
-use Rattle.decimal.specs.Steps.{wide}
+use Rattle.decimal.specs.Inner.Steps.{wide}
 use Rattle.decimal.proofs.Fives.{five-pos}
 use Rattle.decimal.proofs.Rounding.{carried, word-rounded, fraction-rounded}
 use Rattle.decimal.proofs.Scaled.{rounds-to}

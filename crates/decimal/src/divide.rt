@@ -1,7 +1,8 @@
 // Numbers of two words, hi * 2^64 + lo, moved left and divided by powers of five.
 ghost use mathlib.Core.Path.{_≡_};
 ghost use Prim.Native.Nat.{_+_, _^_, _<_, min};
-ghost use Rattle.decimal.specs.Steps.{wide, IsAligned, IsDivided, IsDividedOnce, IsQuotient};
+ghost use Rattle.decimal.specs.Inner.Steps.{wide, IsAligned, IsQuotient};
+ghost use Rattle.decimal.specs.Inner.Steps.{IsDivided, IsDividedOnce};
 
 pub(crate) struct Aligned {
     pub hi: u64,

@@ -5,8 +5,10 @@ mod round;
 ghost use mathlib.Core.Path.{_≡_};
 ghost use Prim.Native.Nat.{_^_, _≤_, _<_};
 ghost use lib.Ieee.{binary64, round};
-ghost use Rattle.decimal.specs.Decimal.{isZero, isNegative, isPositive, scaleFits, value, convert, AnswersNearest};
-ghost use Rattle.decimal.specs.Steps.{wide};
+ghost use Rattle.decimal.specs.Decimal.{isZero, isNegative, isPositive, scaleFits};
+ghost use Rattle.decimal.specs.Decimal.{value, convert};
+ghost use Rattle.decimal.specs.Inner.Answers.{AnswersNearest};
+ghost use Rattle.decimal.specs.Inner.Steps.{wide};
 
 // ±(high * 2^64 + low) / 10^scale. Every value of the struct is a Decimal.
 #[repr(C)]

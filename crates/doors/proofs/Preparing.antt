@@ -5,7 +5,8 @@ use Prim.Native.Nat.{ℕ}
 use lib.ListN.{length}
 use Rattle.refusal.specs.declared.Outcome.{Outcome}
 use Rattle.refusal.specs.declared.Outcome.the-variants.{Passed}
-use Rattle.refusal.specs.Questions.{firstNo, orLater}
+use Rattle.refusal.specs.Questions.{firstNo}
+use Rattle.refusal.specs.Inner.Asking.{orLater}
 use Rattle.refusal.proofs.Laws.{append, earlier-passed, later-passed, later-same, later-grouped}
 use Rattle.model.specs.declared.Kernel.{Kernel}
 use Rattle.model.specs.declared.RawParams.{RawParams}

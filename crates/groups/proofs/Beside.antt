@@ -1,4 +1,5 @@
--- The invariant of four paths side by side, over any batch, what each turn does to it, and what it says at the end. Assumes nothing.
+-- The invariant of four paths side by side, over any batch, what each turn does to it, and what it
+-- says at the end. Assumes nothing.
 use mathlib.Core.Path.{_≡_, sym, ap, _∙_, subst}
 use mathlib.Core.Bool.{Bool, false, cond}
 use mathlib.Core.List.{List}
@@ -29,7 +30,8 @@ use Rattle.groups.specs.Inner.Group.{flagged, Fell, FourWalked}
 abbrev pub RowsFilled : Batch → ℕ → ℕ → List Float → Type 0
 RowsFilled b path segment rows = (l j : ℕ) → l < 4 → j < segment → getD rows (l * b .simulation .schedule .count + j) nan ≡ observation b (suc (path + l)) (suc j)
 
--- at the head of the loop: `at` steps of paths path + 1 to path + 4 are walked, and their rows are filled up to `segment`
+-- at the head of the loop: `at` steps of paths path + 1 to path + 4 are walked, and their rows are
+-- filled up to `segment`
 pub record Beside (b : Batch) (n path : ℕ) (segment at : ℕ) (s : Lanes) (factors : List Float) (low : List Bool) (rows : List Float) : Type 0 where
   pub most : at ≤ b .simulation .schedule .total
   pub reached : Reached (b .simulation .schedule) segment at

@@ -1,4 +1,5 @@
--- Four paths side by side: flags, columns of rows, and what makes four walked paths. Assumes nothing.
+-- Four paths side by side: flags, columns of rows, and what makes four walked paths.
+-- Assumes nothing.
 use mathlib.Core.Path.{_≡_, sym, ap, _∙_}
 use mathlib.Core.Bool.{Bool, true, false, _||_, or-true, or-false}
 use mathlib.Core.List.{List}

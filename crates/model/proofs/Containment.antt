@@ -1,4 +1,5 @@
--- The segment that contains a step. In a schedule as its door lays it out, each step from 1 to N is contained in exactly one. Assumes nothing.
+-- The segment that contains a step. In a schedule as its door lays it out, each step from 1 to N is
+-- contained in exactly one. Assumes nothing.
 use mathlib.Core.Path.{_≡_, refl, ap, _∙_}
 use mathlib.Core.Bool.{Bool, true, false, cond, and-false, and-eq-true-iff}
 use mathlib.Core.Option.{Option, none, some, Option·getD}

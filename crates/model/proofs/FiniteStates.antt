@@ -1,5 +1,5 @@
--- States stay finite and the variance at least c: a finite z has finite factors, adding what is not negative to c gives no less than c, and a start of bounded doubles is finite.
--- Assumes nothing.
+-- States stay finite and the variance at least c: a finite z has finite factors, adding what is not
+-- negative to c gives no less than c, and a start of bounded doubles is finite. Assumes nothing.
 use mathlib.Core.Path.{_≡_, refl, sym, ap, _∙_, subst}
 use mathlib.Core.Bool.{Bool, true, false, and-eq-true-iff}
 use mathlib.Core.List.{List}

@@ -1,4 +1,5 @@
--- The first that there is among f 1, f 2, ..: what more of them change, and what fewer. Assumes nothing.
+-- The first that there is among f 1, f 2, ..: what more of them change, and what fewer.
+-- Assumes nothing.
 use mathlib.Core.Path.{_≡_, refl, sym, _∙_, subst}
 use mathlib.Core.Option.{Option, none, some}
 use mathlib.Core.Logic.{_⊎_, inl, inr}

@@ -14,16 +14,17 @@ use Rattle.model.specs.declared.Schedule.{Schedule}
 use Rattle.model.specs.Parameters.{zeroDecimal}
 use Rattle.model.specs.First.{firstSome}
 
--- segment i as given, counted from 1
+-- Rule 6.1: segment i as given, counted from 1
 abbrev pub segmentAt : Segments → ℕ → Segment
 segmentAt g i = getD (g .segments) (pred i) (record { dt = zeroDecimal; steps = 0 })
 
--- the steps of the first i segments together, which is the last step of segment i
+-- Rule 6.1: the steps of the first i segments together, which is the last step of segment i
 unfoldable pub stepsThrough : Segments → ℕ → ℕ
 stepsThrough g zero = 0
 stepsThrough g (suc i) = stepsThrough g i + segmentAt g (suc i) .steps
 
--- the schedule as converted; "sqrt_dt is the root of the converted dt"
+-- Rule 6.2: of each segment dt as converted, sqrt_dt, which is the root of that double, and its
+-- last step
 unfoldable pub scheduleOf : Segments → Schedule
 unfolding tabulate stepsThrough root
 scheduleOf g =
@@ -35,26 +36,27 @@ scheduleOf g =
       last = tabulate (g .count) (λ i. stepsThrough g (suc i));
     }
 
--- the last step of segment i, counted from 1; before the first segment, 0
+-- Rule 6.3: the last step of segment i, counted from 1; before the first segment, 0
 abbrev pub lastStep : Schedule → ℕ → ℕ
 lastStep sc zero = 0
 lastStep sc (suc i) = getD (sc .last) i 0
 
--- "A segment contains the steps after its predecessor's last, up to its own last."
+-- Rule 6.3: segment i contains the steps after the last one of segment i - 1, up to its own last
 abbrev pub contains : Schedule → ℕ → ℕ → Bool
 contains sc zero k = false
 contains sc (suc i) k = ltb (lastStep sc i) k && leb k (lastStep sc (suc i))
 
--- the segment that contains step k, or 0
+-- Rule 6.4: the first segment that contains step k, or 0
 unfoldable pub segmentOf : Schedule → ℕ → ℕ
 unfolding firstSome
 segmentOf sc k = Option·getD (firstSome (λ i. cond (contains sc i k) (some i) none) (sc .count)) 0
 
--- dt and sqrt_dt of the segment that contains step k
+-- Rule 6.4: the dt of step k is that of the segment that contains it
 unfoldable pub dtAt : Schedule → ℕ → Float
 unfolding segmentOf
 dtAt sc k = getD (sc .dt) (pred (segmentOf sc k)) nan
 
+-- Rule 6.4: and so is its sqrt_dt
 unfoldable pub sqrtDtAt : Schedule → ℕ → Float
 unfolding segmentOf
 sqrtDtAt sc k = getD (sc .«sqrt_dt») (pred (segmentOf sc k)) nan

@@ -15,12 +15,12 @@ pub record Given : Type 0 where
   pub params : Params
   pub segments : Segments
 
+-- Rule 5.1: what a call is given, as one record
 abbrev pub given : List Float → List Float → Params → Segments → Given
 given weights discounts params segments =
     record { weights = weights; discounts = discounts; params = params; segments = segments }
 
--- Rule 7.1: what every path shares, namely the tables, the parameters and the schedule as converted,
--- and the start
+-- Rule 7.1: what every path shares: kernel, parameters and schedule, as converted, and the start
 abbrev pub simulationOf : Given → Simulation
 simulationOf g =
     let kernel = kernelOf (g .weights) (g .discounts) in

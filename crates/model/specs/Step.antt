@@ -1,4 +1,5 @@
--- A state, how z and variance are read off its factors, and one step of the scheme. Definitions only.
+-- A state, how z and variance are read off its factors, and one step of the scheme.
+-- Definitions only.
 use mathlib.Core.Bool.{Bool, true, false}
 use mathlib.Core.List.{List}
 use Prim.Native.Nat.{ℕ, zero, suc}
@@ -14,33 +15,35 @@ use Rattle.model.specs.declared.State.{State}
 use Rattle.model.specs.declared.Finiteness.{Finiteness}
 use Rattle.model.specs.declared.Finiteness.the-variants.{Finite, NonFinite}
 
--- the sum of weight × factor over the first k indices, "in index order, begun at -0.0"
+-- Rule 5.5: the sum of weight × factor over the first k indices, in their order, begun at -0.0
 unfoldable pub weightedSum : List Float → List Float → ℕ → Float
 unfolding add mul
 weightedSum weights factors zero = minusZero
 weightedSum weights factors (suc k) =
     plus (weightedSum weights factors k) (times (getD weights k nan) (getD factors k nan))
 
--- "With s = z - b, variance = a × s × s + c"
+-- Rule 5.6: with s = z - b, ((a × s) × s) + c
 unfoldable pub varianceAt : RawParams → Float → Float
 unfolding add mul sub
 varianceAt p z = let s = less z (p .b) in plus (times (times (p .a) s) s) (p .c)
 
--- the state with this spot and these factors: "z and variance are read anew"
+-- Rule 5.7: the state with this spot and these factors: z and variance are read off the factors
 unfoldable pub read : Kernel → RawParams → Float → List Float → State
 unfolding weightedSum varianceAt
 read k p spot factors =
     let z = weightedSum (k .weights) factors (k .n) in
     record { spot = spot; z = z; variance = varianceAt p z; factors = factors }
 
--- "each factor becomes (factor + f) / (1 + discount × dt)"
+-- Rule 7.3: each factor becomes (factor + f) / (1 + (discount × dt))
 unfoldable pub moved : Kernel → List Float → Float → Float → List Float
 unfolding add mul div tabulate
 moved k factors f dt =
-    tabulate (k .n) (λ i. over (plus (getD factors i nan) f) (plus one (times (getD (k .discounts) i nan) dt)))
+    tabulate (k .n)
+    (λ i. over (plus (getD factors i nan) f) (plus one (times (getD (k .discounts) i nan) dt)))
 
--- "Step k takes the path's draw k as g, and dt and sqrt_dt of the segment that contains step k: dw = sqrt_dt × g; d = root(variance) × dw;
--- f = (-lambda) × z × dt + eta × d, with the old z; spot becomes spot + spot × d"
+-- Rule 7.2: a step with the draw g: dw = sqrt_dt × g, d = √variance × dw, and the forcing is
+-- f = (((-lambda) × z) × dt) + (eta × d), with z and variance of the state before the step.
+-- The spot becomes spot + (spot × d), and the factors are moved by f.
 unfoldable pub step : Kernel → RawParams → State → Float → Float → Float → State
 unfolding read moved add mul neg root
 step k p s g dt sqrtDt =
@@ -49,12 +52,13 @@ step k p s g dt sqrtDt =
     let f = plus (times (times (neg (p .lambda)) (s .z)) dt) (times (p .eta) d) in
     read k p (plus (s .spot) (times (s .spot) d)) (moved k (s .factors) f dt)
 
--- "the first step where spot, z or variance, asked in this order, is not finite"
+-- Rule 7.5: of spot, z and variance, in this order, the first that is not finite
 abbrev pub firstOfThree : Bool → Bool → Bool → Finiteness
 firstOfThree false z variance = NonFinite Spot
 firstOfThree true false variance = NonFinite Z
 firstOfThree true true false = NonFinite Variance
 firstOfThree true true true = Finite
 
+-- Rule 7.5: whether a state is finite; its factors are not asked
 unfoldable pub finiteness : State → Finiteness
 finiteness s = firstOfThree (finite (s .spot)) (finite (s .z)) (finite (s .variance))

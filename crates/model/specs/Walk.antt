@@ -15,7 +15,7 @@ use Rattle.model.specs.Step.{step, finiteness}
 use Rattle.model.specs.First.{firstSome}
 use Rattle.model.specs.Schedule.{dtAt, sqrtDtAt}
 
--- Rule 7.1: what a path walks on; `draw k` is the draw of its step k
+-- Rule 7.1: what a path walks on; `draw k` is the draw of its step k, counted from 1
 pub record Walk : Type 0 where
   pub simulation : Simulation
   pub draw : ℕ → Float
@@ -34,6 +34,7 @@ pub record Stop : Type 0 where
   pub step : ℕ
   pub quantity : Quantity
 
+-- Rule 7.6: a stop at step k, where its state is not finite
 abbrev pub stopHere : ℕ → Finiteness → Option Stop
 stopHere k Finite = none
 stopHere k (NonFinite q) = some (record { step = k; quantity = q })
@@ -43,7 +44,7 @@ unfoldable pub stopWithin : Walk → ℕ → Option Stop
 unfolding stateAfter finiteness firstSome
 stopWithin w n = firstSome (λ k. stopHere k (finiteness (stateAfter w k))) n
 
--- what is written where there is no stop, and what was lent where there is one
+-- Rule 16.2: what is written where there is no stop, and what was lent where there is one
 abbrev pub unlessStopped : {A : Type 0} → Option A → Float → Float → Float
 unlessStopped none written lent = written
 unlessStopped (some stop) written lent = lent

@@ -73,7 +73,8 @@ pub fn rates_of(k: Kernel, dt: f64, sqrt_dt: f64) -> Rates
 // The rates of a segment, counted from 0; past the 64th, where there is none, of NaNs.
 pub fn rates_at(k: Kernel, sched: Schedule, segment: usize) -> Rates
     requires { ⌜ k .n ≤ 10 ⌝ }
-    ensures { λ r. ⌜ RatesOf k (getD (sched .dt) segment nan) (getD (sched .«sqrt_dt») segment nan) r ⌝ }
+    ensures { λ r. ⌜ RatesOf k (getD (sched .dt) segment nan)
+        (getD (sched .«sqrt_dt») segment nan) r ⌝ }
 {
     if segment < 64 {
         return rates_of(k, sched.dt[segment], sched.sqrt_dt[segment]);
@@ -99,7 +100,8 @@ fn move_factors(n: usize, factors: &[f64], forcing: f64, divisors: &[f64]) -> [f
 pub fn step(k: Kernel, p: RawParams, s: State, g: f64, rates: Rates) -> State
     requires { ⌜ k .n ≤ 10 ⌝ }
     requires { ⌜ RatesOf k (rates .dt) (rates .«sqrt_dt») rates ⌝ }
-    ensures { λ r. ⌜ stateInUse (k .n) r ≡ step (kernelInUse k) p (stateInUse (k .n) s) g (rates .dt) (rates .«sqrt_dt») ⌝ }
+    ensures { λ r. ⌜ stateInUse (k .n) r
+        ≡ step (kernelInUse k) p (stateInUse (k .n) s) g (rates .dt) (rates .«sqrt_dt») ⌝ }
 {
     let dw = rates.sqrt_dt * g;
     let diffusion = numeric::sqrt(s.variance) * dw;

@@ -1,5 +1,6 @@
--- Bounds by powers of two. `Within k x` says that x is finite and that |x| ≤ 2 ^ k, exactly. A power of two is a double and rounding keeps the order, so the bound of an exact result is the bound of the rounded one.
--- Assumes nothing.
+-- Bounds by powers of two. `Within k x` says that x is finite and that |x| ≤ 2 ^ k, exactly. A
+-- power of two is a double and rounding keeps the order, so the bound of an exact result is the
+-- bound of the rounded one. Assumes nothing.
 use mathlib.Core.Path.{_≡_, refl, sym, ap, _∙_, subst}
 use Prim.Native.Nat.{ℕ, suc, _+_, _-_, _*_, _^_, _≤_, _<_, zero-le}
 use native.Mathlib.Nat.{le-trans, le-of-eq, zero-lt-suc, mul-one, one-mul, mul-comm, mul-assoc, mul-right-comm, mul-mul-mul-comm, mul-le-mul, mul-le-mul-right, le-of-mul-le-mul-right, mul-pos}

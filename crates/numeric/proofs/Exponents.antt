@@ -1,11 +1,12 @@
--- The exponent is made even, and a subnormal number's digits are shifted up: the number that is left is the same. Assumes nothing.
+-- The exponent is made even, and a subnormal number's digits are shifted up: the number that is
+-- left is the same. Assumes nothing.
 use mathlib.Core.Path.{_≡_, refl, sym, ap, _∙_}
 use Prim.Native.Nat.{ℕ, zero, suc, _+_, _-_, _*_, _/_, _%_, _^_, _≤_, _<_}
 use native.Mathlib.Nat.{le-trans, le-of-eq, lt-of-le-of-lt, lt-of-lt-of-le, lt-of-not-le, not-le-of-lt, mod-eq-of-lt, mul-assoc, mul-le-mul-left, mul-le-mul-right}
 use native.Mathlib.Omega.{arith}
 use lib.Pow.{pow-add, pow-mono, shl-lt}
 use lib.Count.{leadingZeros, leading-top}
-use Rattle.numeric.specs.Step.{Significand, Digits}
+use Rattle.numeric.specs.Inner.Step.{Significand, Digits}
 
 -- ---- an even exponent
 

@@ -1,5 +1,5 @@
--- Rounding keeps the order, so a sum with a term that is not negative is no smaller than the other term. In particular a × s × s + c is at least c, for an a that is not negative.
--- Assumes nothing.
+-- Rounding keeps the order, so a sum with a term that is not negative is no smaller than the other
+-- term. In particular a × s × s + c is at least c, for an a that is not negative. Assumes nothing.
 use mathlib.Core.Path.{_≡_, refl, sym, ap, _∙_, subst}
 use Prim.Native.Nat.{ℕ, _+_, _-_, _*_, _≤_, _<_, zero-le}
 use native.Mathlib.Nat.{le-trans, le-of-eq, zero-mul, mul-assoc, mul-le-mul-right, mul-pos, not-le-of-lt}

@@ -1,4 +1,5 @@
--- The root of a normal number above zero, by its pattern, and what makes a double that root. Assumes nothing.
+-- The root of a normal number above zero, by its pattern, and what makes a double that root.
+-- Assumes nothing.
 use mathlib.Core.Path.{_≡_, sym, ap, _∙_}
 use Prim.Native.Nat.{ℕ, _+_, _-_, _*_, _/_, _%_, _^_, _≤_, _<_}
 use native.Mathlib.Nat.{add-comm}
@@ -7,7 +8,7 @@ use lib.Dec.{T}
 use lib.Ieee.{Float, binary64, fits, ofBits, toBits}
 use lib.Ieee.Bits.{ofBits-toBits}
 use Rattle.numeric.specs.Root.{root, rootUnits}
-use Rattle.numeric.specs.Step.{Digits, Nearest}
+use Rattle.numeric.specs.Inner.Step.{Digits, Nearest}
 use Rattle.numeric.proofs.Rounding.{rootUnits-at}
 use Rattle.numeric.proofs.Values.{normal-is, root-of-odd, units-pattern}
 use Rattle.numeric.proofs.Exponents.{together, even-exponent, significand}

@@ -9,7 +9,7 @@ use lib.Ieee.Fits.{and-l, and-r}
 use native.Mathlib.Decide.{decLe}
 use native.Mathlib.Omega.{arith}
 use borrow.Author.Tests.{lt-ltb, le-leb, lt-leb}
-use Rattle.numeric.specs.Step.{Square, Nearest, isNearest, Significand, Digits}
+use Rattle.numeric.specs.Inner.Step.{Square, Nearest, isNearest, Significand, Digits}
 
 pub le-or-lt : (a b : ℕ) → (a ≤ b) ⊎ (b < a)
 le-or-lt a b =

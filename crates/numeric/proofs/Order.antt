@@ -1,4 +1,5 @@
--- The order of finite floats is that of the fractions ±`num` / `den` that they stand for. So `le` is transitive, and `neg` turns it round. Assumes nothing.
+-- The order of finite floats is that of the fractions ±`num` / `den` that they stand for. So `le`
+-- is transitive, and `neg` turns it round. Assumes nothing.
 use mathlib.Core.Path.{_≡_, refl, sym}
 use mathlib.Core.Logic.{_⊎_, inl, inr}
 use Prim.Native.Nat.{ℕ, _+_, _*_, _≤_, _<_, zero-le}

@@ -8,7 +8,7 @@ use lib.Arith.{le→nltb}
 use lib.Ieee.{Float, nan, inf, fin, binary64, fits, isNan, nanBits, toBits, ne}
 use lib.Ieee.Compare.{nan-differs}
 use lib.Ieee.Bits.{ofBits-toBits, nanBits-is, nanBits-above}
-use Rattle.numeric.specs.Double.{bitsOf}
+use Rattle.numeric.specs.Inner.Bits.{bitsOf}
 
 -- up to the infinity's pattern there is no NaN
 pub no-nan : (n : ℕ) → n ≤ 2047 * 2 ^ 52 → T (not (nanBits binary64 n))

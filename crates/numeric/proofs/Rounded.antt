@@ -1,4 +1,5 @@
--- `round` of a fraction with a sign: the result has that sign, is no NaN, keeps the order, and is the fraction itself where the format holds it. Assumes nothing.
+-- `round` of a fraction with a sign: the result has that sign, is no NaN, keeps the order, and is
+-- the fraction itself where the format holds it. Assumes nothing.
 use mathlib.Core.Path.{_≡_, refl, sym, ap, _∙_, subst}
 use Prim.Native.Nat.{ℕ, zero, suc, _+_, _-_, _*_, _%_, _^_, _≤_, _<_, zero-le}
 use native.Mathlib.Nat.{le-antisymm, le-trans, le-of-eq, le-of-suc-le-suc, lt-of-not-le, not-le-of-lt, zero-mul, mul-one, mul-comm, mul-assoc, mul-right-comm, mul-lt-mul-of-pos-right, lt-of-mul-lt-mul-right, le-of-mul-le-mul-right, eq-of-mul-eq-mul-right}

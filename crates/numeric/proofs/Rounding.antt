@@ -1,4 +1,5 @@
--- The rounding of `rootUnits` at v = m * 2 ^ 52 * 4 ^ k, for an m of 53 or 54 digits: the result is the number nearest to the root of m * 2 ^ 52, k digits further up. Assumes nothing.
+-- The rounding of `rootUnits` at v = m * 2 ^ 52 * 4 ^ k, for an m of 53 or 54 digits: the result is
+-- the number nearest to the root of m * 2 ^ 52, k digits further up. Assumes nothing.
 use mathlib.Core.Path.{_≡_, refl, sym, ap, _∙_, subst}
 use Prim.Native.Nat.{ℕ, suc, _+_, _-_, _*_, _/_, _^_, _≤_, _<_, compare, Ordering, Ordering·lt, Ordering·eq, Ordering·gt}
 use native.Mathlib.Nat.{le-trans, le-of-eq, le-antisymm, le-of-suc-le-suc, lt-of-lt-of-le, lt-of-le-of-lt, lt-of-not-le, not-le-of-lt, mul-pos, mul-le-mul, mul-le-mul-right, mul-lt-mul-of-pos-right, lt-of-mul-lt-mul-right, le-of-mul-le-mul-right, eq-of-mul-eq-mul-right, mul-assoc, mul-add, add-mul, le-div-iff-mul-le}
@@ -8,7 +9,7 @@ use lib.Pow.{pow-add, pow-pos, pow-mono}
 use lib.Ieee.{Float, binary64, size, nearest, units}
 use lib.Ieee.Digits.{size-lt, size-le}
 use Rattle.numeric.specs.Root.{isqrt, rootUnits}
-use Rattle.numeric.specs.Step.{Nearest, Significand}
+use Rattle.numeric.specs.Inner.Step.{Nearest, Significand}
 use Rattle.numeric.proofs.Numbers.{square-next, odd-square, lt-of-squares, times-squared}
 use Rattle.numeric.proofs.Compare.{Cmp, cmp}
 use Rattle.numeric.proofs.Whole.{Whole, isqrt-is, cut-below, cut-above}

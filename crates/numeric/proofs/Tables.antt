@@ -45,7 +45,7 @@ module _ {A : Type 0} where
   tabulate-same d n f g same =
       is-tabulate d n g (tabulate n f) (length-tabulate n f) (λ i h. getD-tabulate n i f d h ∙ same i h)
 
-  -- a loop that fills a list from the front: what is stored at i makes the first i + 1 entries right
+  -- a loop that fills a list from the front: what is stored at i makes the first i + 1 right
   pub fill-next : (d : A) (f : ℕ → A) (l : List A) (i : ℕ) (v : A) → i < length l → ((j : ℕ) → j < i → getD l j d ≡ f j) → v ≡ f i → (j : ℕ) → j < i + 1 → getD (set l i v) j d ≡ f j
   fill-next d f l i v h done new =
       below-more (λ (j : ℕ). getD (set l i v) j d ≡ f j) i

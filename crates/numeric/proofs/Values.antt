@@ -1,4 +1,5 @@
--- `root` of a value by its size in units of the smallest double, and the pattern of the result. Assumes nothing.
+-- `root` of a value by its size in units of the smallest double, and the pattern of the result.
+-- Assumes nothing.
 use mathlib.Core.Path.{_≡_, refl, sym, ap, _∙_, subst}
 use Prim.Native.Nat.{ℕ, zero, suc, _+_, _-_, _*_, _/_, _%_, _^_, _≤_, _<_}
 use native.Mathlib.Nat.{lt-irrefl, lt-of-lt-of-le, zero-lt-suc, zero-mul, two-mul, mul-assoc, mul-right-comm, mul-div-cancel, mul-pos, mod-eq-of-lt, not-le-of-lt, div-lt-iff-lt-mul, pow-suc}
@@ -15,7 +16,8 @@ use Rattle.numeric.specs.Root.{root, rootUnits}
 
 -- ---- `root`, by the value
 
--- a number that is not negative and is a units in size: its root is that of a times the square of 2 ^ low
+-- a number that is not negative and is a units in size: its root is that of a times the square of
+-- 2 ^ low
 units-squared : (l y a d : ℕ) → 0 < d → y * 2 ^ l ≡ a * d → y * 2 ^ (2 * l) / d ≡ a * 2 ^ l
 units-squared l y a d D e =
     ap (λ (x : ℕ). y * x / d) (ap (λ (x : ℕ). 2 ^ x) (two-mul l) ∙ pow-add 2 l l)

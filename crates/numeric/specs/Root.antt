@@ -1,28 +1,33 @@
--- The square root of IEEE 754: the value of the format that is nearest to the exact root, a tie to the even one. (For a double there is never a tie: `Correct`.)
--- Definitions only, over the values of `lib.Ieee`, in the style of its `round`.
+-- The square root of IEEE 754: the value of the format that is nearest to the exact root, a tie to
+-- the even one; for a double there is never a tie (`Correct`). Over the values of `lib.Ieee`, in
+-- the style of its `round`. Definitions only.
 use Prim.Native.Nat.{ℕ, zero, suc, _+_, _-_, _*_, _/_, _^_, compare}
 use mathlib.Core.Bool.{true, false, cond}
 use lib.Dec.{leb}
 use lib.Ieee.{Float, nan, inf, fin, Format, prec, low, up, down, size, nearest, units}
 
--- With r the whole part of the root of v / 4, that of v is 2 * r or the next number: the larger one whose square is not above v.
+-- Rule 4.2: with r the whole part of the root of v / 4, that of v is 2 * r or the next number: the
+-- larger one whose square is not above v
 unfoldable pub digit : ℕ → ℕ → ℕ
 digit v r = cond (leb ((2 * r + 1) * (2 * r + 1)) v) (2 * r + 1) (2 * r)
 
--- The root of a v below 4 ^ d, one binary digit for each two of v's.
+-- Rule 4.2: the whole part of the root of a v below 4 ^ d, one binary digit for each two of v's
 unfoldable pub rootIn : ℕ → ℕ → ℕ
 unfolding digit
 rootIn zero v = 0
 rootIn (suc d) v = digit v (rootIn d (v / 4))
 
--- The whole part of the square root of v: the w with w * w ≤ v < (w + 1) * (w + 1) (`proofs/Whole.antt`). v is below 2 ^ size v, and so below 4 ^ size v.
+-- Rule 4.2: the whole part of the root of v, which is the w with w * w ≤ v < (w + 1) * (w + 1)
+-- (`proofs/Whole.antt`). v is below 2 ^ size v, and so below 4 ^ size v.
 unfoldable pub isqrt : ℕ → ℕ
 unfolding rootIn size
 isqrt v = rootIn (size v) v
 
--- The root of a number above zero, counted in units of f's smallest value: v is the number times the square of 2 ^ low f, so the root is √v units.
--- Of its whole part w the format keeps the `prec` leading digits, q, and drops k. The result is q * 2 ^ k units or (q + 1) * 2 ^ k: the nearer one,
--- by how the root compares with what lies half way, (2 * q + 1) * 2 ^ k / 2. Both are doubled and squared.
+-- Rule 4.2: the root of a number above zero, counted in units of f's smallest value. v is the
+-- number times the square of 2 ^ low f, so the root is √v units. Of its whole part w the format
+-- keeps the `prec` leading digits, q, and drops k. The result is q * 2 ^ k or (q + 1) * 2 ^ k
+-- units: the nearer one, by how the root compares with what lies half way,
+-- (2 * q + 1) * 2 ^ k / 2. Both are doubled and squared.
 unfoldable pub rootUnits : Format → ℕ → Float
 unfolding isqrt size units
 rootUnits f v =
@@ -32,7 +37,8 @@ rootUnits f v =
     let half = (2 * q + 1) * 2 ^ k in
     units f false (nearest q (compare (4 * v) (half * half))) k
 
--- A NaN and a number below zero have no root. A zero keeps its sign. Any other number is m * up e / down e, and in a value that f holds down e divides 2 ^ low f: the v below is exact.
+-- Rule 4.1: a NaN and a number below zero have no root, and a zero keeps its sign. Any other number
+-- is m * up e / down e, and in a value that f holds down e divides 2 ^ low f: the v below is exact.
 unfoldable pub root : Format → Float → Float
 unfolding rootUnits
 root f nan = nan

@@ -3,7 +3,8 @@
 ghost use mathlib.Core.Path.{_≡_};
 ghost use mathlib.Core.Bool.{true};
 ghost use lib.Ieee.{binary64};
-ghost use Rattle.numeric.specs.Double.{finite, bitsOf, magnitude, positivePart, larger};
+ghost use Rattle.numeric.specs.Double.{finite, magnitude, positivePart, larger};
+ghost use Rattle.numeric.specs.Inner.Bits.{bitsOf};
 ghost use Rattle.numeric.specs.Correct.{RootIsNearest};
 ghost use Rattle.numeric.specs.Root.{root};
 

@@ -2,7 +2,8 @@
 // wide. The root is never half way between two numbers.
 ghost use mathlib.Core.Path.{_≡_};
 ghost use Prim.Native.Nat.{_+_, _*_, _^_, _<_};
-ghost use Rattle.numeric.specs.Step.{part, Square, isNearest, Nearest, Significand, Digits};
+ghost use Rattle.numeric.specs.Inner.Step.{part, Square, isNearest, Nearest};
+ghost use Rattle.numeric.specs.Inner.Step.{Significand, Digits};
 use std::num::wrapping_sub_u64;
 
 const TWO_52: u64 = 0x10_0000_0000_0000;

@@ -6,7 +6,7 @@ ghost use Prim.Native.Nat.{_*_, _^_, _<_, _≤_};
 ghost use mathlib.Core.Bool.{false};
 ghost use lib.Ieee.{binary64, units, ofBits};
 ghost use Rattle.numeric.specs.Root.{root, rootUnits};
-ghost use Rattle.numeric.specs.Step.{Digits};
+ghost use Rattle.numeric.specs.Inner.Step.{Digits};
 use crate::HIDDEN;
 use crate::nearest;
 

@@ -1,5 +1,6 @@
--- Laws of questions: asked in turn, one list after another, in a loop over `each`, and what follows where all are passed.
--- A row of calls of `ask` comes to `in-turn`; a chain of `if !t { return .. }` is rewritten by `yes` and `no`, under `unfolding firstNo`. Assumes nothing.
+-- Laws of questions: asked in turn, one list after another, in a loop over `each`, and what follows
+-- where all are passed. A row of calls of `ask` comes to `in-turn`; a chain of
+-- `if !t { return .. }` is rewritten by `yes` and `no`, under `unfolding firstNo`. Assumes nothing.
 use mathlib.Core.Path.{_≡_, refl, sym, _∙_, ap, subst}
 use mathlib.Core.Bool.{Bool, true, false, not}
 use mathlib.Core.List.{List, [], _∷_, _++_}
@@ -12,7 +13,8 @@ use borrow.Author.Tests.{not-true, not-false}
 use Rattle.refusal.specs.declared.Refusal.{Refusal}
 use Rattle.refusal.specs.declared.Outcome.{Outcome}
 use Rattle.refusal.specs.declared.Outcome.the-variants.{Passed, Refused}
-use Rattle.refusal.specs.Questions.{Question, unless, firstNo, orLater, further, each, KeptUnlessPassed}
+use Rattle.refusal.specs.Questions.{Question, unless, firstNo, each, KeptUnlessPassed}
+use Rattle.refusal.specs.Inner.Asking.{orLater, further}
 
 -- ---- the code's `if !t { return .. }`, where t is what a call answers to a question
 pub no : {t passes : Bool} → t ≡ passes → not t ≡ true → passes ≡ false

@@ -1,7 +1,8 @@
-// The refusals of document 01, "Questions at the door": what a call answers when a question gets a No.
+// Refusals: what a call answers when one of its questions gets a No.
 ghost use mathlib.Core.Path.{_≡_};
 ghost use Rattle.refusal.specs.Refusal.{numberOf, placeOf, quantityNumber};
-ghost use Rattle.refusal.specs.Questions.{ask, further, orLater};
+ghost use Rattle.refusal.specs.Questions.{ask};
+ghost use Rattle.refusal.specs.Inner.Asking.{further, orLater};
 
 // What can stop being finite in a step, in the order in which it is asked.
 pub enum Quantity {
@@ -101,7 +102,7 @@ pub fn number(refusal: Refusal) -> u32
     }
 }
 
-// The place, in the order of document 01, with 0 where there is none.
+// The place as four numbers, with 0 where there is none.
 pub fn place(refusal: Refusal) -> [u64; 4]
     ensures { λ r. ⌜ r ≡ placeOf refusal ⌝ }
 {

@@ -9,7 +9,8 @@ use Rattle.decimal.specs.Decimal.{value}
 use Rattle.refusal.specs.declared.Refusal.{Refusal}
 use Rattle.refusal.specs.declared.Outcome.{Outcome}
 use Rattle.refusal.specs.declared.Outcome.the-variants.{Passed, Refused}
-use Rattle.refusal.specs.Questions.{Question, firstNo, orLater, further, KeptUnlessPassed}
+use Rattle.refusal.specs.Questions.{Question, firstNo, KeptUnlessPassed}
+use Rattle.refusal.specs.Inner.Asking.{orLater, further}
 use Rattle.refusal.proofs.Laws.{append, then, stops, in-turn, earlier-passed, later-same}
 use Rattle.refusal.proofs.Laws.{kept-same}
 use Rattle.model.specs.declared.Kernel.{Kernel}

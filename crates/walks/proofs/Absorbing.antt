@@ -1,4 +1,5 @@
--- A walk that is finite after n steps was finite before: what is not finite stays so. Assumes nothing.
+-- A walk that is finite after n steps was finite before: what is not finite stays so.
+-- Assumes nothing.
 use mathlib.Core.Path.{_≡_, refl, sym, ap, _∙_}
 use mathlib.Core.Bool.{true, false}
 use mathlib.Core.Logic.{⊎-elim}

@@ -1,4 +1,5 @@
--- What the code is handed, in arrays of which the first places are in use, and the batch that it stands for. Assumes nothing.
+-- What the code is handed, in arrays of which the first places are in use, and the batch that it
+-- stands for. Assumes nothing.
 use mathlib.Core.Path.{_≡_, refl, sym, _∙_}
 use mathlib.Core.Bool.{Bool, true, false}
 use Prim.Native.Nat.{ℕ, suc, _/_, _%_, _<_, _≤_}

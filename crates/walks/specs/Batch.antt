@@ -21,7 +21,7 @@ pub record Batch : Type 0 where
   pub paths : ℕ
   pub draw : ℕ → ℕ → Float
 
--- the plain walk of path p
+-- Rule 9.1: the plain walk of path p
 abbrev pub walkOf : Batch → ℕ → Walk
 walkOf b p = record { simulation = b .simulation; draw = b .draw p }
 
@@ -36,6 +36,7 @@ abbrev pub negatedIf : Bool → Float → Float
 negatedIf true g = neg g
 negatedIf false g = g
 
+-- Rule 9.2: the draw of step k of path p, among those lent
 abbrev pub drawOf : Bool → List Float → ℕ → ℕ → ℕ → Float
 drawOf true draws total p k = negatedIf (eqb (p % 2) 0) (getD draws (drawPlace true total p k) nan)
 drawOf false draws total p k = getD draws (drawPlace false total p k) nan
@@ -67,7 +68,8 @@ unfoldable pub nonPositivePaths : Batch → ℕ → ℕ
 unfolding nonPositiveBy
 nonPositivePaths b zero = 0
 nonPositivePaths b (suc n) =
-    nonPositivePaths b n + cond (nonPositiveBy (walkOf b (suc n)) (b .simulation .schedule .total)) 1 0
+    nonPositivePaths b n
+    + cond (nonPositiveBy (walkOf b (suc n)) (b .simulation .schedule .total)) 1 0
 
 -- Rule 9.4: the observation of path p at the end of segment j
 unfoldable pub observation : Batch → ℕ → ℕ → Float

@@ -1,4 +1,5 @@
--- `decimal::is_zero` meets its contract: a coefficient is 0 where both of its words are. Assumes nothing.
+-- `decimal::is_zero` meets its contract: a coefficient is 0 where both of its words are.
+-- Assumes nothing.
 use mathlib.Core.Path.{_≡_, sym, ap, _∙_}
 use Prim.Native.Nat.{ℕ, _+_, _*_, _^_, _<_}
 use native.Mathlib.Nat.{pos-of-ne-zero, ne-of-gt}

@@ -1,11 +1,12 @@
--- `decimal::nonzero_to_f64` meets its contract: what its calls ensure is what `converted` asks. Assumes nothing.
+-- `decimal::nonzero_to_f64` meets its contract: what its calls ensure is what `converted` asks.
+-- Assumes nothing.
 use mathlib.Core.Path.{_≡_, sym, ap, _∙_, subst}
 use Prim.Native.Nat.{ℕ, _-_, _^_, _≤_, _<_, min}
 use native.Mathlib.Nat.{le-trans}
 use native.Mathlib.Omega.{arith}
 use lib.Dec.{lit≤}
 use lib.Ieee.{binary64, units}
-use Rattle.decimal.specs.Steps.{wide}
+use Rattle.decimal.specs.Inner.Steps.{wide}
 use Rattle.decimal.proofs.Whole.{from-top, quotient-from, significand, converted}
 use borrow.Author.Needs.{needs}
 use Rattle.decimal.proofs.nonzero_to_f64.Statement.{statement}

@@ -1,7 +1,7 @@
 -- `doors::prepare` meets its contract: what the three doors answer, put together. Assumes nothing.
 use mathlib.Core.Path.{ap, _∙_}
 use borrow.Author.Needs.{needs}
-use Rattle.refusal.specs.Questions.{orLater}
+use Rattle.refusal.specs.Inner.Asking.{orLater}
 use Rattle.doors.proofs.Preparing.{model-prepared}
 use Rattle.doors.proofs.prepare.Statement.{statement}
 use Rattle.doors.proofs.prepare.Tie as tie

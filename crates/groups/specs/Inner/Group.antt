@@ -19,15 +19,18 @@ use Rattle.lanes.specs.Inner.Lanes.{laneOf}
 use Rattle.groups.specs.declared.Together.{Together}
 use Rattle.groups.specs.declared.Together.the-variants.{Walked, Unsure}
 
--- paths path + 1 to path + 4 do not stop, `low` of them are non-positive, and `rows` has their
--- observations
+-- Rules 7.6, 9.7 and 9.4: paths path + 1 to path + 4 do not stop, `low` of them are non-positive,
+-- and `rows` has their observations
 pub record FourWalked (b : Batch) (path : ℕ) (rows : List Float) (low : ℕ) : Type 0 where
-  pub going : (l : ℕ) → l < 4 → stopWithin (walkOf b (suc (path + l))) (b .simulation .schedule .total) ≡ none
+  pub going : (l : ℕ) → l < 4
+      → stopWithin (walkOf b (suc (path + l))) (b .simulation .schedule .total) ≡ none
   pub fallen : nonPositivePaths b (path + 4) ≡ nonPositivePaths b path + low
   pub few : low ≤ 4
   pub seen : (l j : ℕ) → l < 4 → j < b .simulation .schedule .count
-      → getD rows (l * b .simulation .schedule .count + j) nan ≡ observation b (suc (path + l)) (suc j)
+      → getD rows (l * b .simulation .schedule .count + j) nan
+      ≡ observation b (suc (path + l)) (suc j)
 
+-- the same where the four are walked; where it is not sure, nothing is said
 abbrev pub Walks : Batch → ℕ → List Float → Together → Type 0
 Walks b path rows (Walked low) = FourWalked b path rows low
 Walks b path rows Unsure = Unit {0}
@@ -49,12 +52,12 @@ unfoldable pub flagged : List Bool → ℕ → ℕ
 flagged flags zero = 0
 flagged flags (suc n) = flagged flags n + cond (getD flags n false) 1 0
 
--- the flags, with those set of the spots that are not above zero
+-- Rule 9.7: the flags, with those set of the spots that are not above zero
 pub record Fell (low : List Bool) (spot : List Float) (flags : List Bool) : Type 0 where
   pub flag : (l : ℕ) → l < 4
       → getD flags l false ≡ (getD low l false || le (getD spot l nan) plusZero)
 
--- what is observed in each lane, of states of as many factors as the form has, or more
+-- Rule 9.1: what is observed in each lane, of states of as many factors as the form has, or more
 abbrev pub ObservedLanes : Observation → Lanes → List Float → List Float → Type 0
 ObservedLanes observation s factors values =
     (n l : ℕ) → observation .form .n ≤ n → l < 4

@@ -18,11 +18,11 @@ use Rattle.model.specs.Inner.InUse.{kernelInUse}
 use Rattle.lanes.specs.declared.Lanes.{Lanes}
 use Rattle.lanes.specs.declared.Tried.{Tried}
 
--- lane l of a table of n factors: factor i stands at 4 * i + l
+-- lane l of a table of n factors: factor i of it stands at 4 * i + l
 abbrev pub laneFactors : ℕ → List Float → ℕ → List Float
 laneFactors n factors l = tabulate n (λ i. getD factors (4 * i + l) nan)
 
--- the state of lane l
+-- Rule 5.7: the state of lane l
 abbrev pub laneOf : ℕ → Lanes → List Float → ℕ → State
 laneOf n s factors l =
     record {
@@ -32,17 +32,19 @@ laneOf n s factors l =
       factors = laneFactors n factors l;
     }
 
--- the lanes but for their factors, and the factors, where every lane is at one state
+-- Rule 7.4: every lane is at one state, but for its factors
 pub record AllAt (start : State) (s : Lanes) : Type 0 where
   pub spot : (l : ℕ) → l < 4 → getD (s .spot) l nan ≡ start .spot
   pub z : (l : ℕ) → l < 4 → getD (s .z) l nan ≡ start .z
   pub variance : (l : ℕ) → l < 4 → getD (s .variance) l nan ≡ start .variance
 
+-- Rule 7.4: and every lane has the first n of these factors
 pub record Spread (n : ℕ) (values after : List Float) : Type 0 where
   pub long : length after ≡ 40
   pub new : (i l : ℕ) → i < n → l < 4 → getD after (4 * i + l) nan ≡ getD values i nan
 
--- the four factors from place `at` on become (factor + forcing) / divisor, and the others stay
+-- Rule 7.3: the four factors from place `at` on become (factor + forcing) / divisor, and the others
+-- stay
 pub record RowMoved (forcing : List Float) (divisor : Float) (at : ℕ) (before after : List Float)
     : Type 0 where
   pub long : length after ≡ length before
@@ -50,14 +52,14 @@ pub record RowMoved (forcing : List Float) (divisor : Float) (at : ℕ) (before 
       ≡ over (plus (getD before (at + l) nan) (getD forcing l nan)) divisor
   pub kept : (x : ℕ) → (x < at) ⊎ (at + 4 ≤ x) → getD after x nan ≡ getD before x nan
 
--- every factor is moved, and z has the sum of weight × factor of each lane
+-- Rules 7.3 and 5.5: every factor is moved, and z has the sum of weight × factor of each lane
 pub record LanesMoved (n : ℕ) (forcing divisors weights before after z : List Float) : Type 0 where
   pub long : length after ≡ length before
   pub new : (i l : ℕ) → i < n → l < 4 → getD after (4 * i + l) nan
       ≡ over (plus (getD before (4 * i + l) nan) (getD forcing l nan)) (getD divisors i nan)
   pub sum : (l : ℕ) → l < 4 → getD z l nan ≡ weightedSum weights (laneFactors n after l) n
 
--- lane l takes a step of the scheme
+-- Rule 7.2: lane l takes a step of the scheme
 abbrev pub LaneSteps : Kernel → RawParams → Lanes → List Float → Rates → List Float → List Float
     → Lanes → ℕ → Type 0
 LaneSteps k p s g rates before after next l =
@@ -65,20 +67,21 @@ LaneSteps k p s g rates before after next l =
     ≡ step (kernelInUse k) p (laneOf (k .n) s before l) (getD g l nan) (rates .dt)
     (rates .«sqrt_dt»)
 
--- each lane takes a step where it is given the root of its variance
+-- Rule 7.2: each lane takes a step where it is given the root of its variance
 pub record LanesStepped (roots : List Float) (k : Kernel) (p : RawParams) (s : Lanes)
     (g : List Float) (rates : Rates) (before after : List Float) (next : Lanes) : Type 0 where
   pub long : length after ≡ length before
   pub lane : (l : ℕ) → l < 4 → getD roots l nan ≡ root binary64 (getD (s .variance) l nan)
       → LaneSteps k p s g rates before after next l
 
--- each lane takes a step where the answer is sure
+-- Rule 7.2: each lane takes a step where the answer is sure
 pub record StepTried (k : Kernel) (p : RawParams) (s : Lanes) (g : List Float) (rates : Rates)
     (before after : List Float) (tried : Tried) : Type 0 where
   pub long : length after ≡ length before
   pub lane : tried .sure ≡ true → (l : ℕ) → l < 4
       → LaneSteps k p s g rates before after (tried .lanes) l
 
+-- Rule 7.5: the state of lane l is finite
 pub record FiniteLane (s : Lanes) (l : ℕ) : Type 0 where
   pub spot : finite (getD (s .spot) l nan) ≡ true
   pub z : finite (getD (s .z) l nan) ≡ true

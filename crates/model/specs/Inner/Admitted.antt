@@ -13,13 +13,14 @@ use Rattle.model.specs.declared.Simulation.{Simulation}
 use Rattle.model.specs.Kernel.{inRange}
 use Rattle.model.specs.Step.{read}
 
--- a Decimal as converted: a double, and at most 2^96 in size, since a Decimal's coefficient has 96
--- bits
+-- Rule 3.4: a Decimal as converted is a double, and at most 2^96 in size, since its coefficient has
+-- 96 bits (3.1)
 pub record Converted (x : Float) : Type 0 where
   pub double : fits binary64 x ≡ true
   pub small : le (magnitude x) (fin false 1 (pos 96)) ≡ true
 
--- a is not negative, and each Decimal of the parameters, with n factors, is converted
+-- Rules 14.4 and 5.4: a is not negative, and each Decimal of the parameters, with n factors, is
+-- converted
 pub record ParamsReady (n : ℕ) (p : RawParams) (start : State) : Type 0 where
   pub a-not-negative : magnitude (p .a) ≡ p .a
   pub a : Converted (p .a)
@@ -30,8 +31,8 @@ pub record ParamsReady (n : ℕ) (p : RawParams) (start : State) : Type 0 where
   pub spot : Converted (start .spot)
   pub factor : (i : ℕ) → i < n → Converted (getD (start .factors) i nan)
 
--- at most 10 weights, each from 2^-90 to 2^90; the parameters as above; and a start whose z and
--- variance are read off its factors
+-- Rules 14.3 and 5.8: at most 10 weights, each in range; the parameters as above; and a start whose
+-- z and variance are read off its factors
 pub record Admitted (s : Simulation) : Type 0 where
   pub few : s .kernel .n ≤ 10
   pub weight : (i : ℕ) → i < s .kernel .n → inRange (getD (s .kernel .weights) i nan) ≡ true

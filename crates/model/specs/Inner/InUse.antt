@@ -7,6 +7,7 @@ use Rattle.model.specs.declared.State.{State}
 use Rattle.model.specs.declared.Schedule.{Schedule}
 use Rattle.model.specs.declared.Simulation.{Simulation}
 
+-- Rule 5.2: the first n weights and discounts
 abbrev pub kernelInUse : Kernel → Kernel
 kernelInUse k =
     record {
@@ -15,10 +16,12 @@ kernelInUse k =
       discounts = take (k .n) (k .discounts);
     }
 
+-- Rule 5.7: a state with its first n factors
 abbrev pub stateInUse : ℕ → State → State
 stateInUse n s =
     record { spot = s .spot; z = s .z; variance = s .variance; factors = take n (s .factors) }
 
+-- Rule 6.2: the segments that there are
 abbrev pub scheduleInUse : Schedule → Schedule
 scheduleInUse sc =
     record {
@@ -29,6 +32,7 @@ scheduleInUse sc =
       last = take (sc .count) (sc .last);
     }
 
+-- Rule 7.1: a simulation of these
 abbrev pub simulationInUse : Simulation → Simulation
 simulationInUse s =
     record {

@@ -4,8 +4,8 @@ use Prim.Native.Nat.{ℕ, _≤_, _<_}
 use Rattle.model.specs.declared.Schedule.{Schedule}
 use Rattle.model.specs.Schedule.{lastStep}
 
--- 1 to 64 segments, each of a step or more, that end one after the other, the last one at the last
--- step, which is 4096 at most
+-- Rule 14.6: 1 to 64 segments, each of a step or more, that end one after the other, the last one
+-- at the last step, which is 4096 at most
 pub record Laid (sc : Schedule) : Type 0 where
   pub some : 1 ≤ sc .count
   pub few : sc .count ≤ 64

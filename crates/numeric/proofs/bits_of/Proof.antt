@@ -2,7 +2,7 @@
 use mathlib.Core.Path.{sym, ap, subst}
 use lib.Dec.{T}
 use lib.Ieee.Compare.{differs-from-itself}
-use Rattle.numeric.specs.Double.{bitsOf}
+use Rattle.numeric.specs.Inner.Bits.{bitsOf}
 use Rattle.numeric.proofs.Patterns.{same-no-nan, bits-are}
 use Rattle.numeric.proofs.bits_of.Statement.{statement}
 use Rattle.numeric.proofs.bits_of.Tie as tie

@@ -6,7 +6,7 @@ use native.Mathlib.Omega.{arith}
 use lib.Dec.{T}
 use lib.Ieee.{binary64, toBits}
 use borrow.Author.Needs.{needs}
-use Rattle.numeric.specs.Step.{Significand}
+use Rattle.numeric.specs.Inner.Step.{Significand}
 use Rattle.numeric.proofs.Exponents.{significand}
 use Rattle.numeric.proofs.Normal.{is-root}
 use Rattle.numeric.proofs.Numbers.{near-of-test}

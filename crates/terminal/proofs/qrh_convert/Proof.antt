@@ -4,7 +4,8 @@ use mathlib.Core.Path.{_≡_, sym, ap, _∙_, subst}
 use mathlib.Core.Bool.{false, true≢false}
 use lib.Ieee.{Float}
 use Rattle.decimal.specs.declared.Decimal.{Decimal}
-use Rattle.decimal.specs.Decimal.{scaleFits, ConvertsToNearest, AnswersNearest}
+use Rattle.decimal.specs.Decimal.{scaleFits, ConvertsToNearest}
+use Rattle.decimal.specs.Inner.Answers.{AnswersNearest}
 use borrow.Author.Needs.{needs}
 use Rattle.numeric.proofs.Doubles.{zero-is}
 use Rattle.terminal.specs.declared.Conversion.{Conversion}

@@ -3,7 +3,7 @@
 use mathlib.Core.Path.{_≡_, sym, _∙_}
 use borrow.Author.Needs.{needs}
 use Rattle.refusal.specs.declared.Outcome.the-variants.{Passed}
-use Rattle.refusal.specs.Questions.{orLater}
+use Rattle.refusal.specs.Inner.Asking.{orLater}
 use Rattle.vix_value.specs.Call.{VixInputs, vixInputs}
 use Rattle.vix_value.proofs.Evaluating.{refused-early, refused-late, form-few, evaluated}
 use Rattle.vix_value.proofs.evaluate.Statement.{statement}

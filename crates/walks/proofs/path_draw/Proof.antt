@@ -1,4 +1,5 @@
--- `walks::path_draw` meets its contract: a place of a part of the draws is a place of the draws. Assumes nothing.
+-- `walks::path_draw` meets its contract: a place of a part of the draws is a place of the draws.
+-- Assumes nothing.
 use mathlib.Core.Path.{_≡_, _∙_}
 use mathlib.Core.List.{List}
 use Prim.Native.Nat.{ℕ, _+_, _-_, _<_}

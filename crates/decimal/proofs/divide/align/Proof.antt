@@ -1,4 +1,5 @@
--- `decimal::divide::align` meets its contract: the word's leading zeros say how far its highest bit goes, and what leaves the lower word is added to the upper. Assumes nothing.
+-- `decimal::divide::align` meets its contract: the word's leading zeros say how far its highest bit
+-- goes, and what leaves the lower word is added to the upper. Assumes nothing.
 use mathlib.Core.Path.{_≡_, sym, ap, _∙_, subst}
 use Prim.Native.Nat.{ℕ, _+_, _-_, _*_, _/_, _%_, _^_, _≤_, _<_}
 use native.Mathlib.Nat.{le-trans, le-add-right, mod-eq-of-lt, mul-assoc, mul-comm, add-zero, pos-of-ne-zero}
@@ -6,7 +7,7 @@ use native.Mathlib.Omega.{arith}
 use lib.Count.{leadingZeros}
 use lib.Pow.{pow-add}
 use borrow.Author.Needs.{needs}
-use Rattle.decimal.specs.Steps.{wide, IsAligned}
+use Rattle.decimal.specs.Inner.Steps.{wide, IsAligned}
 use Rattle.decimal.proofs.Words.{highest, moved, fits-above, out}
 use Rattle.decimal.proofs.divide.align.Statement.{statement}
 use Rattle.decimal.proofs.divide.align.Tie as tie

@@ -1,10 +1,11 @@
--- `decimal::divide::divide_by_fives` meets its contract. The loop's invariant: 5 ^ (scale - left) is divided out. Assumes nothing.
+-- `decimal::divide::divide_by_fives` meets its contract. The loop's invariant: 5 ^ (scale - left)
+-- is divided out. Assumes nothing.
 use mathlib.Core.Path.{refl, sym, ap, _∙_, subst}
 use Prim.Native.Nat.{ℕ, _-_, _^_, _≤_, _<_}
 use native.Mathlib.Nat.{le-refl, sub-self, sub-zero}
 use native.Mathlib.Omega.{arith}
 use lib.Dec.{lit<}
-use Rattle.decimal.specs.Steps.{wide, IsDividedOnce, IsQuotient}
+use Rattle.decimal.specs.Inner.Steps.{wide, IsDividedOnce, IsQuotient}
 use Rattle.decimal.proofs.Fives.{five-pos, five-short, parts, none, once-more}
 use Rattle.decimal.proofs.divide.divide_by_fives.Statement.{statement}
 use Rattle.decimal.proofs.divide.divide_by_fives.Tie as tie

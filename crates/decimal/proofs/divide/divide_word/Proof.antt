@@ -1,4 +1,5 @@
--- `decimal::divide::divide_word` meets its contract: two steps of a long division with digits of 32 bits. Assumes nothing.
+-- `decimal::divide::divide_word` meets its contract: two steps of a long division with digits of 32
+-- bits. Assumes nothing.
 use native.Mathlib.Omega.{arith}
 use borrow.Author.Needs.{needs}
 use Rattle.decimal.proofs.Words.{rest-less, upper-digit, lower-digit, last-less, divided}

@@ -1,4 +1,5 @@
--- `decimal::divide::five_to` meets its contract: each arm has the power that its number says. Assumes nothing.
+-- `decimal::divide::five_to` meets its contract: each arm has the power that its number says.
+-- Assumes nothing.
 use mathlib.Core.Path.{_≡_, sym, ap}
 use Prim.Native.Nat.{ℕ, _+_, _^_, _≤_, _<_, zero-le}
 use native.Mathlib.Omega.{arith}

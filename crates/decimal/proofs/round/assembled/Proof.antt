@@ -1,4 +1,5 @@
--- `decimal::round::assembled` meets its contract: the pattern is the one that the value is written with. Assumes nothing.
+-- `decimal::round::assembled` meets its contract: the pattern is the one that the value is written
+-- with. Assumes nothing.
 use mathlib.Core.Path.{_≡_, sym, ap, _∙_, subst}
 use mathlib.Core.Bool.{Bool, true, false, not}
 use Prim.Native.Nat.{ℕ, _+_, _*_, _^_}

@@ -1,4 +1,5 @@
--- `decimal::round::rounded` meets its contract: the carry is what `nearest` adds, in each of its three cases. Assumes nothing.
+-- `decimal::round::rounded` meets its contract: the carry is what `nearest` adds, in each of its
+-- three cases. Assumes nothing.
 use borrow.Author.Needs.{needs}
 use Rattle.decimal.proofs.Rounding.{word-rounded}
 use Rattle.decimal.proofs.round.rounded.Statement.{statement}

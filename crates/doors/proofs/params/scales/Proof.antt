@@ -4,7 +4,8 @@ use mathlib.Core.List.{List, [], _∷_, _++_}
 use borrow.Author.Needs.{needs}
 use Rattle.refusal.specs.declared.Outcome.{Outcome}
 use Rattle.refusal.specs.declared.Outcome.the-variants.{Passed}
-use Rattle.refusal.specs.Questions.{Question, firstNo, further, orLater, each}
+use Rattle.refusal.specs.Questions.{Question, firstNo, each}
+use Rattle.refusal.specs.Inner.Asking.{further, orLater}
 use Rattle.refusal.proofs.Laws.{asking, in-turn, append, append-one}
 use Rattle.model.specs.declared.Params.{Params}
 use Rattle.model.specs.Questions.{scaleQuestion}

@@ -1,4 +1,5 @@
--- `lanes::roots::near_root` is safe: each pattern that is made a float is no NaN's. Assumes nothing.
+-- `lanes::roots::near_root` is safe: each pattern that is made a float is no NaN's.
+-- Assumes nothing.
 use native.Mathlib.Omega.{arith}
 use borrow.Author.Needs.{needs}
 use Rattle.numeric.proofs.Patterns.{no-nan}

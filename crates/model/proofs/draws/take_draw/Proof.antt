@@ -1,6 +1,9 @@
--- `draws::take_draw` meets its contract: a walk of its MIR, by hand. A reader is made of the slice and the place in a local, the local is lent to `PathDraws::next` for a lifetime that is made for the call, and its memory comes back.
--- That lifetime lies below the slice's own, κ: it is the meet α ∷ κ of a new one and κ. Its token is made of a share of the new one's and half of κ's, and `next` is given the other half for κ. All that the proof knows of `next` is that it meets its contract.
--- Assumes nothing.
+-- `draws::take_draw` meets its contract: a walk of its MIR, by hand. A reader is made of the slice
+-- and the place in a local, the local is lent to `PathDraws::next` for a lifetime that is made for
+-- the call, and its memory comes back. That lifetime lies below the slice's own, κ: it is the meet
+-- α ∷ κ of a new one and κ. Its token is made of a share of the new one's and half of κ's, and
+-- `next` is given the other half for κ. All that the proof knows of `next` is that it meets its
+-- contract. Assumes nothing.
 use mathlib.Core.Path.{_≡_, refl}
 use Prim.Native.Nat.{ℕ, _<_, _^_, _+_}
 use mathlib.Core.List.{List, [], _∷_}
@@ -99,7 +102,8 @@ module _ {M : Type 1} (𝓤 : URA M) (H : Heap 𝓤) (A : Atoms 𝓤) (W : Given
   shut : ent 𝓤 (sem 𝓤 H A OwnSlice) (sem 𝓤 H A (B .own made (mach ∷ [])))
   shut = qed W (‵ OwnSlice ∷ []) ∵ nothing ! $ owned ! usize (Is usize) (uint-makes 𝓤 H A W w64) n _ (refl, n-fits) $ fjoin ! $ move ! (1 ∷ 0 ∷ []) $ fjoin ! $ by ! (own-shut 𝓤 H A W (T.the-type α′) (T′.the-laws α′) (s, (n, tt)))
 
-  -- ---- the tokens: the halves of κ's share, and what gives the whole token of α back for a share of it
+  -- ---- the tokens: the halves of κ's share, and what gives the whole token of α back for a share
+  -- of it
   abbrev l : Share
   l = PosShare·left q
 
@@ -116,7 +120,8 @@ module _ {M : Type 1} (𝓤 : URA M) (H : Heap 𝓤) (A : Atoms 𝓤) (W : Given
       -- [a share of α's; what gives the whole back; the halves of κ's; true]
       move ! (0 ∷ 2 ∷ []) $ use2 W (‵ (flft (α ∷ κ) l)) (W .lfts .lft-meet (α ∷ []) κ l) $ frame ! $ keep ! (1 ∷ 0 ∷ []) $ frame ! $ done !
 
-  -- ---- the call of `next`: the reference to the local at b under the name δ, what `next` is passed, and what it asks
+  -- ---- the call of `next`: the reference to the local at b under the name δ, what `next` is
+  -- passed, and what it asks
   abbrev lent : ℕ → GName → RefT PathDraws
   lent b δ = record { ptr = (b, 0); name = δ; now = made }
 
@@ -146,28 +151,35 @@ module _ {M : Type 1} (𝓤 : URA M) (H : Heap 𝓤) (A : Atoms 𝓤) (W : Given
         alloc1 ! (λ l₀. alloc1 ! (λ l₁. alloc1 ! (λ l₂. alloc1 ! (λ l₃. alloc1 ! (λ l₄. alloc0 ! $ params1 ! $ pass1 ! (init ! 6 refl wt) $ pass1 ! (init ! 4 refl (tt, record { fits = n-fits })) $ pass0 ! $
         assigns ! (agg ! (and-then ! (load ! (from ! (stop !)) (look ! 6 refl)) (and-then ! (load ! (from ! (stop !)) (look ! 4 refl)) (no-more !)))) (from ! (stop !)) (init ! 2 refl (tt, (wt .1, (record { fits = n-fits }, tt)))) $
         assigns ! (addr ! (from ! (stop !))) (from ! (stop !)) (init ! 0 refl (tt, tt)) $
-        -- what the slice owns is had twice: once for the exit, and once in the reader, which lies in the local
+        -- what the slice owns is had twice: once for the exit, and once in the reader, which lies
+        -- in the local
         move ! (11 ∷ []) $ fsplit ! $ use1 W (‵ OwnSlice ⊛ ‵ OwnSlice) (shr-slice-copy 𝓤 H A W (named 0) κ f64 .twice s (v ∷ [])) $ split ! $ use1 W (‵ (B .own made (mach ∷ []))) shut $
         move ! (5 ∷ 0 ∷ []) $ use2 W (‵ (partAt B fullShare made l₃ 0)) (part-in-at 𝓤 H A W B refl fullShare made l₃ 0 (T′.mir erased) refl mach) $
-        -- [the reader in memory; what the slice owns; what the place owns; _4; …; what frees _3; _2; …; _1; …; room for _0; …; κ's token]
+        -- [the reader in memory; what the slice owns; what the place owns; _4; …; what frees _3;
+        -- _2; …; _1; …; room for _0; …; κ's token]
         lft-new ! tt (λ α. move ! (13 ∷ 0 ∷ []) $ use2 W (‵ (flft (α ∷ κ) l) ⊛ ‵ (flft κ r) ⊛ raw (Whole α)) (begins α) $ split ! $ move ! (1 ∷ []) $ split ! $
         move ! (3 ∷ []) $ use1 W (later (some (λ (δ : GName). ‵ (MutRef (named 0) (α ∷ κ) B .own (lent l₃ δ) (vptr l₃ 0 ∷ [])) ⊛ ‵ (flent (α ∷ κ) (Body (mem B) l₃ 0 δ))))) (lends-ref 𝓤 H A W B (named 0) (α ∷ κ) made l₃ 0) $ await ! tt $ pick ! (λ δ. split ! $
-        -- [the reference; the lender's part; κ's token; what gives α's back; the meet's token; what the slice owns; what the place owns; _4; …]
+        -- [the reference; the lender's part; κ's token; what gives α's back; the meet's token; what
+        -- the slice owns; what the place owns; _4; …]
         move ! (0 ∷ 4 ∷ 2 ∷ []) $ use3 W (raw (Next 𝓤 H A at-mem run .pre (to α l₃ δ))) (goes α l₃ δ) $
-        -- [what `next` asks; the lender's part; what gives α's back; what the slice owns; what the place owns; _4; …; what frees _3; _2; …; _1; …; room for _0; …]
+        -- [what `next` asks; the lender's part; what gives α's back; what the slice owns; what the
+        -- place owns; _4; …; what frees _3; _2; …; _1; …; room for _0; …]
         calls-at ! fm (Next 𝓤 H A at-mem run) known (to α l₃ δ) (and-then ! (load ! (from ! (stop !)) (look ! 5 refl)) (no-more !)) (λ u.
         use1 W (later (some (λ (g : Float). ((‵ (flft (α ∷ κ) l) ⊛ ‵ (flft κ r) ⊛ ‵ ftrue) ⊛ ‵ (f64 .own g (u ∷ []))) ⊛ raw (ensured 𝓤 H A next.ended (next.clauses 𝓤 H A at-mem run) (α ∷ κ, (κ, tt)) (lent l₃ δ, tt) tt g)))) (id⊢ 𝓤 _) $ await ! tt $ pick ! (λ g.
         -- what `next` ensures, at some last reader
         split ! $ move ! (1 ∷ []) $ use1 W (some (λ (zs : PathDraws × Unit {0}). ‵ (lasts next.ended (α ∷ κ, (κ, tt)) (lent l₃ δ, tt) zs) ⊛ raw (fact 𝓤 (Said g (zs .0))))) (id⊢ 𝓤 _) $ pick ! (λ zs.
         split ! $ move ! (1 ∷ []) $ heard ! (Said g (zs .0)) (λ e. fsplit ! $ move ! (2 ∷ []) $ split ! $ move ! (1 ∷ []) $ peeks ! f64 (Is f64) (shows 𝓤 H A f64) g (u ∷ []) (λ is.
-        -- [the result; the tokens; the last reader; true; the lender's part; what gives α's back; what the slice owns; what the place owns; _4; …; what frees _3; _2; …; _1; …; room for _0; …]
+        -- [the result; the tokens; the last reader; true; the lender's part; what gives α's back;
+        -- what the slice owns; what the place owns; _4; …; what frees _3; _2; …; _1; …; room for
+        -- _0; …]
         land ! (from ! (stop !)) (init ! 15 refl (float-lawful 𝓤 H A W binary64 .typed g _ is .0)) $
         -- α is ended, and with it the meet; the local's memory comes back
         move ! (1 ∷ []) $ split ! $ use1 W (‵ (flft (α ∷ []) l) ⊛ ‵ (flft κ l)) (W .lfts .lft-unmeet (α ∷ []) κ l) $ split ! $
         move ! (0 ∷ 7 ∷ []) $ use2 W (‵ (flft (α ∷ []) fullShare)) (apply∗ 𝓤 (A .lft (α ∷ []) l) (A .lft (α ∷ []) fullShare)) $ lft-end ! tt $ use1 W (‵ (fdead (α ∷ κ))) (W .lfts .dead-incl (α ∷ κ) (α ∷ []) (meet-⊑-left (α ∷ []) κ)) $
         move ! (0 ∷ 6 ∷ 4 ∷ []) $ use3 W (later (‵ (partAt B fullShare (zs .0) l₃ 0))) (ref-back 𝓤 H A W B (α ∷ κ) δ (zs .0) l₃ 0) $ await ! tt $
         use1 W (some (λ (w : Val). ‵ (fat fullShare (T′.mir erased) l₃ 0 w) ⊛ ‵ (B .own (zs .0) (w ∷ [])))) (part-out-at 𝓤 H A W B refl fullShare (zs .0) l₃ 0 (T′.mir erased) refl) $ pick ! (λ w. split ! $
-        -- [_3; what the last reader owns; half of κ's token; the other half; the result; true; what the slice owns; what the place owns; _4; …; what frees _3; _2; …; _1; …; _0; …]
+        -- [_3; what the last reader owns; half of κ's token; the other half; the result; true; what
+        -- the slice owns; what the place owns; _4; …; what frees _3; _2; …; _1; …; _0; …]
         returns ! (look ! 15 refl) $ forget ! 0 refl $ forget ! 8 refl $ forget ! 11 refl $ forget ! 13 refl $ forget ! 15 refl $
         move ! (15 ∷ 16 ∷ []) $ free1 ! $ move ! (13 ∷ 14 ∷ []) $ free1 ! $ move ! (11 ∷ 12 ∷ []) $ free1 ! $ move ! (0 ∷ 10 ∷ []) $ free1 ! $ move ! (7 ∷ 8 ∷ []) $ free1 ! $ free0 ! $
         keep ! (1 ∷ 2 ∷ 3 ∷ 5 ∷ 6 ∷ []) $ by ! (exits g u (e .0)))))))))))))))

@@ -1,10 +1,11 @@
--- `numeric::nearest::part` meets its contract: t * (t + 1) is t squared and t, and the multiple of 2 ^ 52 in it is taken out of the sum. Assumes nothing.
+-- `numeric::nearest::part` meets its contract: t * (t + 1) is t squared and t, and the multiple of
+-- 2 ^ 52 in it is taken out of the sum. Assumes nothing.
 use mathlib.Core.Path.{_≡_}
 use Prim.Native.Nat.{ℕ, _+_, _*_, _/_, _^_, _<_}
 use native.Mathlib.Nat.{mul-add, mul-one}
 use native.Mathlib.Omega.{arith}
 use borrow.Author.Needs.{needs}
-use Rattle.numeric.specs.Step.{Square, part}
+use Rattle.numeric.specs.Inner.Step.{Square, part}
 use Rattle.numeric.proofs.Numbers.{product-le}
 use Rattle.numeric.proofs.nearest.part.Statement.{statement}
 use Rattle.numeric.proofs.nearest.part.Tie as tie

@@ -1,11 +1,12 @@
--- `numeric::nearest::search` meets its contract. The invariant: the nearest number is above lo, and is hi at most. The measure is how far apart they are. Assumes nothing.
+-- `numeric::nearest::search` meets its contract. The invariant: the nearest number is above lo, and
+-- is hi at most. The measure is how far apart they are. Assumes nothing.
 use mathlib.Core.Path.{_≡_, ap, _∙_}
 use Prim.Native.Nat.{ℕ, _+_, _-_, _*_, _^_, _≤_, _<_}
 use native.Mathlib.Nat.{mul-add, add-mul, div-lt-iff-lt-mul, le-div-iff-mul-le}
 use native.Mathlib.Omega.{arith}
 use lib.Pow.{pow-pos}
 use borrow.Author.Needs.{needs}
-use Rattle.numeric.specs.Step.{part, Significand, Nearest}
+use Rattle.numeric.specs.Inner.Step.{part, Significand, Nearest}
 use Rattle.numeric.proofs.Numbers.{near}
 use Rattle.numeric.proofs.nearest.search.Statement.{statement}
 use Rattle.numeric.proofs.nearest.search.Tie as tie

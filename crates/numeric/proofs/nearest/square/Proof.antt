@@ -1,4 +1,5 @@
--- `numeric::nearest::square` meets its contract: the law is `square-is`, and the products' bounds are those of their factors. Assumes nothing.
+-- `numeric::nearest::square` meets its contract: the law is `square-is`, and the products' bounds
+-- are those of their factors. Assumes nothing.
 use Prim.Native.Nat.{_-_, _/_, _%_, _^_, _≤_}
 use native.Mathlib.Omega.{arith}
 use borrow.Author.Needs.{needs}

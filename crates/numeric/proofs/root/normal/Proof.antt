@@ -1,4 +1,5 @@
--- `numeric::root::normal` meets its contract: the pattern stands for its digits, with the leading one, and its exponent. Assumes nothing.
+-- `numeric::root::normal` meets its contract: the pattern stands for its digits, with the leading
+-- one, and its exponent. Assumes nothing.
 use mathlib.Core.Path.{sym, _∙_}
 use borrow.Author.Needs.{needs}
 use Rattle.numeric.proofs.Normal.{root-is}

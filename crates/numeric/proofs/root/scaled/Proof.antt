@@ -1,4 +1,5 @@
--- `numeric::root::scaled` meets its contract: with its exponent made even the number is m * 2 ^ 52 * 4 ^ k, and of that `rootUnits` is the nearest number's value. Assumes nothing.
+-- `numeric::root::scaled` meets its contract: with its exponent made even the number is
+-- m * 2 ^ 52 * 4 ^ k, and of that `rootUnits` is the nearest number's value. Assumes nothing.
 use mathlib.Core.Path.{_≡_, sym, ap, _∙_, subst}
 use mathlib.Core.Bool.{false}
 use Prim.Native.Nat.{ℕ, _+_, _-_, _*_, _/_, _%_, _^_}
@@ -8,7 +9,7 @@ use lib.Ieee.{binary64, fits, units, ofBits, toBits}
 use lib.Ieee.Bits.{ofBits-toBits}
 use borrow.Author.Needs.{needs}
 use Rattle.numeric.specs.Root.{rootUnits}
-use Rattle.numeric.specs.Step.{Significand, Nearest}
+use Rattle.numeric.specs.Inner.Step.{Significand, Nearest}
 use Rattle.numeric.proofs.Numbers.{near-of-test}
 use Rattle.numeric.proofs.Patterns.{same-no-nan}
 use Rattle.numeric.proofs.Rounding.{rootUnits-at}

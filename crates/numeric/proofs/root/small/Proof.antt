@@ -1,4 +1,5 @@
--- `numeric::root::small` meets its contract: a subnormal number is the same with its digits shifted up and its exponent down. Assumes nothing.
+-- `numeric::root::small` meets its contract: a subnormal number is the same with its digits shifted
+-- up and its exponent down. Assumes nothing.
 use mathlib.Core.Path.{_≡_, refl, sym, ap, _∙_}
 use Prim.Native.Nat.{ℕ, _-_, _*_, _%_, _^_, _<_}
 use native.Mathlib.Nat.{mul-one}

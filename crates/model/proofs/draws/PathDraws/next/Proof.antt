@@ -1,6 +1,9 @@
--- `draws::PathDraws::next` meets its contract: a walk of its MIR, by hand. The borrow is opened, the place is read and moved on, the borrow is closed at the reader with the new place, and `draw_from` is called on the slice and the old place.
--- The reader is Copy: what it owns is had twice. One copy closes the borrow, and of the other what the slice owns goes to the callee, beside the token of the slice's lifetime, which comes back. All that the proof knows of `draw_from` is that it meets its contract.
--- Assumes nothing.
+-- `draws::PathDraws::next` meets its contract: a walk of its MIR, by hand. The borrow is opened,
+-- the place is read and moved on, the borrow is closed at the reader with the new place, and
+-- `draw_from` is called on the slice and the old place. The reader is Copy: what it owns is had
+-- twice. One copy closes the borrow, and of the other what the slice owns goes to the callee,
+-- beside the token of the slice's lifetime, which comes back. All that the proof knows of
+-- `draw_from` is that it meets its contract. Assumes nothing.
 use mathlib.Core.Path.{_≡_, refl}
 use Prim.Native.Nat.{ℕ, _<_, _^_, _+_}
 use native.Mathlib.Omega.{arith}
@@ -106,7 +109,7 @@ module _ {M : Type 1} (𝓤 : URA M) (H : Heap 𝓤) (A : Atoms 𝓤) (W : Given
   abbrev OwnSlice : Fml
   OwnSlice = ShrSlice (named 0) κ′ f64 .own (h .draws) (v ∷ [])
 
-  -- what the reader owns gives what the slice owns, and what the reader owns with its place moved on
+  -- what the reader owns gives what the slice owns, and what it owns with its place moved on
   apart : h .at + 1 < 2 ^ 64 → ent 𝓤 (sem 𝓤 H A (Own h)) (sep 𝓤 (sem 𝓤 H A OwnSlice) (sem 𝓤 H A (Own h′)))
   apart fits =
       qed W (‵ (Own h) ∷ []) ∵ use1 W (‵ (Own h) ⊛ ‵ (Own h)) (LL.copy (T.the-type (α κ′)) (T′.the-copy (α κ′)) 𝓤 H A W .twice h (T′.lowered h ∷ [])) $ split ! $
@@ -125,7 +128,8 @@ module _ {M : Type 1} (𝓤 : URA M) (H : Heap 𝓤) (A : Atoms 𝓤) (W : Given
   goes fits =
       qed W (‵ OwnSlice ∷ (‵ (flft κ′ q′) ⊛ ‵ ftrue) ∷ []) ∵ says ! inside $ nothing ! $ owned ! usize (Is usize) (uint-makes 𝓤 H A W w64) (h .at) _ (refl, fits) $ fjoin ! $ move ! (1 ∷ 0 ∷ []) $ fjoin ! $ move ! (1 ∷ 0 ∷ []) $ frame ! $ done !
 
-  -- of the callee's `ensured`, the clause alone: it has no `&mut`, so what is said of last values is dropped
+  -- of the callee's `ensured`, the clause alone: it has no `&mut`, so what is said of last values
+  -- is dropped
   said : (r : Float) → ent 𝓤 (ensured 𝓤 H A draw.ended (draw.clauses 𝓤 H A at-mem run) (κ′, tt) (h .draws, (h .at, tt)) tt r) (fact 𝓤 (r ≡ found))
   said r = exE 𝓤 _ (λ ws. snd∗ 𝓤 (sem 𝓤 H A (lasts draw.ended (κ′, tt) (h .draws, (h .at, tt)) ws)) (fact 𝓤 (r ≡ found)))
 
@@ -147,7 +151,8 @@ module _ {M : Type 1} (𝓤 : URA M) (H : Heap 𝓤) (A : Atoms 𝓤) (W : Given
         move ! (1 ∷ []) $ peeks ! (B κ′) (Is (B κ′)) (shows 𝓤 H A (B κ′)) h (T′.lowered h ∷ []) (λ was. move ! (1 ∷ 0 ∷ []) $
         let wt = LL.lawful (T.the-type (α κ′)) (T′.the-laws (α κ′)) 𝓤 H A W .typed h _ was .0 .1 in
         let moved = after-fits (h .at) _ inside (wt .0 .1 .0 .fits) in
-        -- [the reader's cell; what a reader owns; the open borrow; obs; auth; the slice's token; true; room for _4; …; room for _3; …; room for _2; …; _1; …; room for _0; …]
+        -- [the reader's cell; what a reader owns; the open borrow; obs; auth; the slice's token;
+        -- true; room for _4; …; room for _3; …; room for _2; …; _1; …; room for _0; …]
         assigns ! (of-opd ! (load ! (from ! (hop ! (look ! 13 refl) (fld ! refl (stop !)))) (look-in ! 0 (sub ! 1 refl (whole !))))) (from ! (stop !)) (init ! 11 refl (tt, wt .1 .0)) $
         assigns ! (bin ! (load ! (from ! (stop !)) (look ! 11 refl)) (lit ! tt) (record { fits = moved })) (from ! (stop !)) (init ! 9 refl (tt, record { fits = moved })) $
         assigns ! (of-opd ! (load ! (from ! (stop !)) (look ! 9 refl))) (from ! (hop ! (look ! 13 refl) (fld ! refl (stop !)))) (store-in ! 0 (sub ! 1 refl (whole !)) (tt, record { fits = moved })) $
@@ -155,12 +160,14 @@ module _ {M : Type 1} (𝓤 : URA M) (H : Heap 𝓤) (A : Atoms 𝓤) (W : Given
         -- the borrow is closed at the reader with its place moved on
         move ! (1 ∷ []) $ use1 W (‵ OwnSlice ⊛ ‵ (Own h′)) (apart moved) $ split ! $ move ! (2 ∷ []) $ use1 W (‵ (cellAt fullShare (B κ′ .mir) (T′.lowered h′ ∷ []) b o)) (W .laws .at-raw fullShare (T′.mir erased) b o (T′.lowered h′)) $
         move ! (0 ∷ 2 ∷ 3 ∷ 4 ∷ 5 ∷ []) $ closes ! tt (B κ′) h′ (T′.lowered h′ ∷ []) b o $
-        -- [obs; the borrow; its token; what the slice owns; the slice's token; true; _4; …; _3; …; _2; …; _1; …; room for _0; …]
+        -- [obs; the borrow; its token; what the slice owns; the slice's token; true; _4; …; _3; …;
+        -- _2; …; _1; …; room for _0; …]
         move ! (3 ∷ 4 ∷ []) $ use2 W (raw (DrawFrom 𝓤 H A at-mem run .pre to)) (goes (wt .1 .0 .fits)) $
         calls-at ! fm (DrawFrom 𝓤 H A at-mem run) known to (and-then ! (load ! (from ! (stop !)) (look ! 5 refl)) (and-then ! (load ! (from ! (stop !)) (look ! 9 refl)) (no-more !))) (λ u.
         use1 W (later (some (λ (r : Float). ((‵ (flft κ′ q′) ⊛ ‵ ftrue) ⊛ ‵ (f64 .own r (u ∷ []))) ⊛ raw (ensured 𝓤 H A draw.ended (draw.clauses 𝓤 H A at-mem run) (κ′, tt) (h .draws, (h .at, tt)) tt r)))) (id⊢ 𝓤 _) $ await ! tt $ pick ! (λ r.
         split ! $ move ! (1 ∷ []) $ use1 W (raw (fact 𝓤 (r ≡ found))) (said r) $ heard ! (r ≡ found) (λ e. split ! $ move ! (1 ∷ []) $
-        -- [the result; the slice's token; obs; the borrow; its token; true; _4; …; _3; …; _2; …; _1; …; room for _0; …]
+        -- [the result; the slice's token; obs; the borrow; its token; true; _4; …; _3; …; _2; …;
+        -- _1; …; room for _0; …]
         peeks ! f64 (Is f64) (shows 𝓤 H A f64) r (u ∷ []) (λ is.
         land ! (from ! (stop !)) (init ! 14 refl (float-lawful 𝓤 H A W binary64 .typed r _ is .0)) $
         returns ! (look ! 14 refl) $ forget ! 6 refl $ forget ! 8 refl $ forget ! 10 refl $ forget ! 12 refl $ forget ! 14 refl $

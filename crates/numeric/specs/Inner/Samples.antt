@@ -1,4 +1,4 @@
--- Values of `root` that antt computes: that the definition says what is meant.
+-- Samples of rules 4.1 and 4.2, computed: that the definition says what is meant.
 use mathlib.Core.Path.{_≡_, refl}
 use mathlib.Core.Bool.{true, false}
 use lib.IntN.{pos}

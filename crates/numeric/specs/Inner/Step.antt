@@ -1,4 +1,4 @@
--- What the steps of the computation say to each other, in whole numbers.
+-- What the steps of the root of rule 4.2 say to each other, in whole numbers. Definitions only.
 use mathlib.Core.Path.{_≡_}
 use mathlib.Core.Bool.{Bool, _&&_}
 use Prim.Native.Nat.{ℕ, _+_, _-_, _*_, _/_, _^_, _≤_, _<_}
@@ -23,7 +23,8 @@ pub record Digits (s : ℕ) : Type 0 where
   pub least : 2 ^ 52 ≤ s
   pub most : s < 2 ^ 53
 
--- s is the whole number nearest to the root of m * 2 ^ 52: s less one half, squared, is s * s - s + 1 / 4, which is below m * 2 ^ 52, and s plus one half, squared, is above it
+-- s is the whole number nearest to the root of m * 2 ^ 52: s minus one half, squared, is
+-- s * s - s + 1 / 4, which is below m * 2 ^ 52, and s plus one half, squared, is above it
 pub record Nearest (m s : ℕ) : Type 0 where
   pub digits : Digits s
   pub above : s * s < m * 2 ^ 52 + s

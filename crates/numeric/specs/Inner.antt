@@ -1,0 +1,4 @@
+-- What only proofs and inner contracts use: nothing here need be believed.
+pub mod Bits
+pub mod Step
+pub mod Samples
