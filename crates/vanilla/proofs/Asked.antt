@@ -7,7 +7,8 @@ use lib.Ieee.{Float}
 use Rattle.refusal.specs.declared.Outcome.{Outcome}
 use Rattle.refusal.specs.declared.Outcome.the-variants.{Passed, Refused}
 use Rattle.refusal.specs.declared.Refusal.{Refusal}
-use Rattle.refusal.specs.Questions.{Question, firstNo, orLater}
+use Rattle.refusal.specs.Questions.{Question, firstNo}
+use Rattle.refusal.specs.Inner.Asking.{orLater}
 use Rattle.refusal.proofs.Laws.{append, then, stops, passed-first}
 use Rattle.model.specs.declared.Simulation.{Simulation}
 use Rattle.model.specs.Simulation.{simulationOf}

@@ -9,7 +9,8 @@ use Rattle.decimal.specs.Decimal.{value}
 use Rattle.refusal.specs.declared.Outcome.{Outcome}
 use Rattle.refusal.specs.declared.Outcome.the-variants.{Passed, Refused}
 use Rattle.refusal.specs.declared.Refusal.{Refusal}
-use Rattle.refusal.specs.Questions.{Question, firstNo, orLater, KeptUnlessPassed}
+use Rattle.refusal.specs.Questions.{Question, firstNo, KeptUnlessPassed}
+use Rattle.refusal.specs.Inner.Asking.{orLater}
 use Rattle.refusal.proofs.Laws.{append, then, stops, earlier-passed, kept-same}
 use Rattle.model.specs.declared.Simulation.{Simulation}
 use Rattle.model.specs.declared.State.{State}

@@ -21,7 +21,7 @@ use Rattle.model.specs.Inner.InUse.{kernelInUse}
 use Rattle.doors.specs.declared.KernelDoor.{KernelDoor}
 use Rattle.doors.specs.declared.ParamsDoor.{ParamsDoor}
 use Rattle.doors.specs.Questions.{kernelQuestions, paramsQuestions}
-use Rattle.doors.specs.Doors.{KernelReady, KernelPrepared, ParamsPrepared}
+use Rattle.doors.specs.Inner.Doors.{KernelReady, KernelPrepared, ParamsPrepared}
 use Rattle.vix.specs.declared.Vix.{Vix}
 use Rattle.vix.specs.declared.FormDoor.{FormDoor}
 use Rattle.vix.specs.declared.Evaluated.{Evaluated}

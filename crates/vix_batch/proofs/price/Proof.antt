@@ -1,6 +1,7 @@
 -- `price` meets its contract. Assumes nothing.
 use mathlib.Core.Path.{_≡_, ap, _∙_}
-use Rattle.refusal.specs.Questions.{firstNo, orLater}
+use Rattle.refusal.specs.Questions.{firstNo}
+use Rattle.refusal.specs.Inner.Asking.{orLater}
 use Rattle.model.specs.Simulation.{given}
 use Rattle.vix_batch.specs.Call.{VixBatchInputs, vixBatchInputs, payoffQuestions}
 use Rattle.vix_batch.proofs.Asked.{model-refused, ready, second-refused, is-ready}
