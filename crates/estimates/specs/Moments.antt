@@ -2,7 +2,7 @@
 use mathlib.Core.Bool.{Bool, true, false}
 use Prim.Native.Nat.{ℕ, zero, suc}
 use lib.Ieee.{Float, binary64, add, sub, mul, div}
-use Rattle.numeric.specs.Double.{plus, less, times, over, one, plusZero, finite}
+use Rattle.numeric.specs.Double.{plus, minus, times, over, one, plusZero, finite}
 use Rattle.numeric.specs.Root.{root}
 use Rattle.estimates.specs.declared.Payoff.{Payoff}
 use Rattle.estimates.specs.declared.Moments.{Moments}
@@ -19,12 +19,12 @@ unfoldable pub withValue : Moments → Float → Moments
 unfolding add sub mul div
 withValue m v =
     let count = plus (m .count) one in
-    let e = less v (m .mean) in
+    let e = minus v (m .mean) in
     let mean = plus (m .mean) (over e count) in
     record {
       count = count;
       mean = mean;
-      «squared_deviations» = plus (m .«squared_deviations») (times e (less v mean));
+      «squared_deviations» = plus (m .«squared_deviations») (times e (minus v mean));
     }
 
 -- Rule 10.2: of what the paths pay, and of the underlyings; with a path more, whose underlying is u
@@ -50,7 +50,7 @@ tallyOf payoff underlying (suc n) =
 unfoldable pub estimateOf : Moments → Estimate
 unfolding sub div root
 estimateOf m =
-    let variance = over (m .«squared_deviations») (less (m .count) one) in
+    let variance = over (m .«squared_deviations») (minus (m .count) one) in
     record { mean = m .mean; error = root binary64 (over variance (m .count)) }
 
 -- Rule 10.6: the estimates of payoff and underlying

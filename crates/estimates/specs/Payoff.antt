@@ -1,6 +1,6 @@
 -- What a path shows a payoff, and what the payoff pays on it. Definitions only.
 use lib.Ieee.{Float, binary64, sub}
-use Rattle.numeric.specs.Double.{less, positivePart}
+use Rattle.numeric.specs.Double.{minus, positivePart}
 use Rattle.numeric.specs.Root.{root}
 use Rattle.walks.specs.declared.Observed.{Observed}
 use Rattle.walks.specs.declared.Observed.the-variants.{Spot, VixSquared}
@@ -12,8 +12,8 @@ use Rattle.estimates.specs.declared.Payoff.the-variants.{Future, Vanilla
 -- Rule 10.5: a vanilla on x, not below zero; a NaN pays zero
 unfoldable pub vanillaPayoff : Style → Float → Float → Float
 unfolding sub positivePart
-vanillaPayoff Call strike x = positivePart (less x strike)
-vanillaPayoff Put strike x = positivePart (less strike x)
+vanillaPayoff Call strike x = positivePart (minus x strike)
+vanillaPayoff Put strike x = positivePart (minus strike x)
 
 -- Rule 10.5: a future pays x
 unfoldable pub payoffOf : Payoff → Float → Float

@@ -10,7 +10,7 @@ use native.Mathlib.Omega.{arith}
 use lib.IntN.{pos, negsuc}
 use lib.ListN.{getD}
 use lib.Ieee.{Float, nan, inf, fin, binary64, fits, le, up, down}
-use Rattle.numeric.specs.Double.{less, times, magnitude, finite}
+use Rattle.numeric.specs.Double.{minus, times, magnitude, finite}
 use Rattle.refusal.specs.declared.Quantity.{Quantity}
 use Rattle.refusal.specs.declared.Quantity.the-variants.{Spot, Z, Variance}
 use Rattle.model.specs.declared.State.{State}
@@ -124,7 +124,7 @@ module _ (m : Simulation) (ok : Admitted m) where
         z = parts .1;
         variance = parts .2;
         factor = sum-factors (k .weights) factors (k .n) (parts .1);
-        at-least-c = variance-ge (p .a) (less z (p .b)) (p .c) a-sign (ok .params .c .double) (parts .2);
+        at-least-c = variance-ge (p .a) (minus z (p .b)) (p .c) a-sign (ok .params .c .double) (parts .2);
       }
 
 -- every state of a walk up to which each step is finite, the start included

@@ -5,7 +5,7 @@ use mathlib.Core.List.{List}
 use Prim.Native.Nat.{ℕ, zero, suc}
 use lib.ListN.{getD}
 use lib.Ieee.{Float, nan, binary64, add, sub, mul, div, neg}
-use Rattle.numeric.specs.Double.{plus, less, times, over, one, minusZero, finite}
+use Rattle.numeric.specs.Double.{plus, minus, times, over, one, minusZero, finite}
 use Rattle.numeric.specs.Root.{root}
 use Rattle.numeric.specs.Table.{tabulate}
 use Rattle.refusal.specs.declared.Quantity.the-variants.{Spot, Z, Variance}
@@ -25,7 +25,7 @@ weightedSum weights factors (suc k) =
 -- Rule 5.6: with s = z - b, ((a × s) × s) + c
 unfoldable pub varianceAt : RawParams → Float → Float
 unfolding add mul sub
-varianceAt p z = let s = less z (p .b) in plus (times (times (p .a) s) s) (p .c)
+varianceAt p z = let s = minus z (p .b) in plus (times (times (p .a) s) s) (p .c)
 
 -- Rule 5.7: the state with this spot and these factors: z and variance are read off the factors
 unfoldable pub read : Kernel → RawParams → Float → List Float → State

@@ -15,7 +15,7 @@ use lib.Ieee.Fits.{two, down-pos}
 use lib.Ieee.Exact.{HasValue, round-exact}
 use lib.Ieee.Order.{round-mono}
 use lib.Ieee.Positive.{num, den, den-pos, positive, between}
-use Rattle.numeric.specs.Double.{plus, less, times, finite}
+use Rattle.numeric.specs.Double.{plus, minus, times, finite}
 use Rattle.numeric.proofs.Finite.{holds, never, sign, neg-finite}
 use Rattle.numeric.proofs.Order.{Ordered, le→ordered}
 use Rattle.numeric.proofs.Rounded.{value-finite, value-fraction, round-sign, round-neg}
@@ -142,7 +142,7 @@ plus-at k (fin s m e) (fin t n d) w v h =
 pub plus-within : {k : ℕ} {x y : Float} → Within k x → Within k y → k + 1 ≤ 1023 → Within (k + 1) (plus x y)
 plus-within {k} {x} {y} w v h = plus-at k x y w v h
 
-pub minus-within : {k : ℕ} {x y : Float} → Within k x → Within k y → k + 1 ≤ 1023 → Within (k + 1) (less x y)
+pub minus-within : {k : ℕ} {x y : Float} → Within k x → Within k y → k + 1 ≤ 1023 → Within (k + 1) (minus x y)
 unfolding sub
 minus-within {k} {x} {y} w v h = plus-at k x (neg y) w (within-neg v) h
 

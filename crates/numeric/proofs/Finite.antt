@@ -3,7 +3,7 @@ use mathlib.Core.Path.{_≡_, refl, sym, ap, _∙_, subst}
 use mathlib.Core.Bool.{Bool, true, false, cond, Bool·beq, false≢true}
 use lib.Dec.{T, eqb}
 use lib.Ieee.{Float, nan, inf, fin, unlike, neg, add, sub, mul}
-use Rattle.numeric.specs.Double.{plus, less, times, finite}
+use Rattle.numeric.specs.Double.{plus, minus, times, finite}
 
 -- ---- tests
 
@@ -42,11 +42,11 @@ neg-finite nan = refl
 neg-finite (inf s) = refl
 neg-finite (fin s m e) = refl
 
-minus-is : (x y : Float) → less x y ≡ plus x (neg y)
+minus-is : (x y : Float) → minus x y ≡ plus x (neg y)
 unfolding sub
 minus-is x y = refl
 
-pub minus-finite : (x y : Float) → finite (less x y) ≡ true → (finite x ≡ true) × (finite y ≡ true)
+pub minus-finite : (x y : Float) → finite (minus x y) ≡ true → (finite x ≡ true) × (finite y ≡ true)
 minus-finite x y h = let r = plus-finite x (neg y) (sym (ap finite (minus-is x y)) ∙ h) in (r .0, sym (neg-finite y) ∙ r .1)
 
 pub times-finite : (x y : Float) → finite (times x y) ≡ true → (finite x ≡ true) × (finite y ≡ true)

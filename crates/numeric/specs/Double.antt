@@ -14,8 +14,8 @@ abbrev pub plus : Float → Float → Float
 plus x y = add binary64 x y
 
 -- Rule 2.1: x - y
-abbrev pub less : Float → Float → Float
-less x y = sub binary64 x y
+abbrev pub minus : Float → Float → Float
+minus x y = sub binary64 x y
 
 -- Rule 2.1: x × y
 abbrev pub times : Float → Float → Float

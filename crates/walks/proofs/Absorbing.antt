@@ -7,7 +7,7 @@ use mathlib.Core.Option.{none}
 use Prim.Native.Nat.{ℕ, zero, suc, _≤_, _<_}
 use native.Mathlib.Omega.{arith}
 use lib.Ieee.{Float, nan, inf, fin, binary64}
-use Rattle.numeric.specs.Double.{times, less, finite}
+use Rattle.numeric.specs.Double.{times, minus, finite}
 use Rattle.numeric.specs.Root.{root}
 use Rattle.numeric.proofs.Finite.{never, plus-finite, times-finite, minus-finite}
 use Rattle.model.specs.declared.Kernel.{Kernel}
@@ -31,7 +31,7 @@ root-finite (fin s m e) h = refl
 variance-finite : (p : RawParams) (z : Float) → finite (varianceAt p z) ≡ true → finite z ≡ true
 unfolding varianceAt
 variance-finite p z h =
-    let s = less z (p .b) in
+    let s = minus z (p .b) in
     minus-finite z (p .b) (times-finite (times (p .a) s) s (plus-finite (times (times (p .a) s) s) (p .c) h .0) .1) .0
 
 -- a finite spot after a step: spot and variance were finite
