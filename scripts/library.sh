@@ -3,7 +3,7 @@
 
 # The crate that exports the calls, which gives the library its name. clients/qrh-sys/build.rs says
 # it once more, for cargo.
-core=terminal
+core=qrh
 
 library_given=${QRH_LIB_DIR:+$(realpath "$QRH_LIB_DIR")}
 cd "$(dirname "${BASH_SOURCE[0]}")/.."

@@ -5,7 +5,7 @@ use std::env;
 use std::path::PathBuf;
 
 /// The crate that exports the calls: the library is libNAME.a (scripts/library.sh has it too).
-const NAME: &str = "terminal";
+const NAME: &str = "qrh";
 
 fn main() {
     println!("cargo::rerun-if-env-changed=QRH_LIB_DIR");
