@@ -8,7 +8,7 @@ const TWO_1023: f64 = 8.98846567431158e307;
 fn nilpotent() -> bool {
     let mut output = [0.0; 4];
     let mut workspace = [0.0; 20];
-    let answer = terminal::qrh_exponential(2, &[0.0, 1.0, 0.0, 0.0], &mut output, &mut workspace);
+    let answer = qrh::qrh_exponential(2, &[0.0, 1.0, 0.0, 0.0], &mut output, &mut workspace);
     (answer.number == 0)
         & (answer.squarings == 1)
         & same(output[0], 1.0)
@@ -21,7 +21,7 @@ fn nilpotent() -> bool {
 fn one_entry(entry: f64, number: u32, squarings: u64) -> bool {
     let mut output = [0.0; 1];
     let mut workspace = [0.0; 5];
-    let answer = terminal::qrh_exponential(1, &[entry], &mut output, &mut workspace);
+    let answer = qrh::qrh_exponential(1, &[entry], &mut output, &mut workspace);
     (answer.number == number) & (answer.squarings == squarings)
 }
 
@@ -29,13 +29,13 @@ fn one_entry(entry: f64, number: u32, squarings: u64) -> bool {
 fn largest() -> u32 {
     let mut output = [0.0; 4489];
     let mut workspace = [0.0; 22445];
-    terminal::qrh_exponential(67, &[0.0; 4489], &mut output, &mut workspace).number
+    qrh::qrh_exponential(67, &[0.0; 4489], &mut output, &mut workspace).number
 }
 
 // The number that a dimension with matrices as long as these is answered by.
 fn number_of(dimension: usize, input: &[f64], output: &mut [f64]) -> u32 {
     let mut workspace = [0.0; 1];
-    terminal::qrh_exponential(dimension, input, output, &mut workspace).number
+    qrh::qrh_exponential(dimension, input, output, &mut workspace).number
 }
 
 pub(crate) fn figures(wrong: u64) -> u64 {

@@ -6,13 +6,13 @@ mod given;
 mod report;
 mod scalar;
 mod traces;
-mod vanilla;
+mod vanillas;
 mod vix;
 
 fn main() {
     let mut wrong = scalar::figures(0);
     wrong = traces::figures(wrong);
-    wrong = vanilla::figures(wrong);
+    wrong = vanillas::figures(wrong);
     wrong = exponential::figures(wrong);
     wrong = vix::figures(wrong);
     io::print_decimal(STDOUT_FILENO, wrong);

@@ -12,13 +12,13 @@ const SMALLEST: f64 = 5e-324;
 
 // Whether a Decimal is answered by this double.
 fn converts(d: Decimal, value: f64) -> bool {
-    let answer = terminal::qrh_convert(d);
+    let answer = qrh::qrh_convert(d);
     (answer.number == 0) & same(answer.value, value)
 }
 
 // Whether a Decimal is turned away by question 1, which has no place.
 fn is_refused(d: Decimal) -> bool {
-    let answer = terminal::qrh_convert(d);
+    let answer = qrh::qrh_convert(d);
     let place = answer.place;
     (answer.number == 1) & is_at(place, 0, 0, 0, 0)
 }
@@ -37,7 +37,7 @@ pub(crate) fn figures(wrong: u64) -> u64 {
     let mut wrong = wrong;
     wrong = tell(
         b"P1: 1 at scale 1 has the bits 3FB999999999999A",
-        bits(terminal::qrh_convert(scaled(1, 1)).value) == 0x3fb9_9999_9999_999a,
+        bits(qrh::qrh_convert(scaled(1, 1)).value) == 0x3fb9_9999_9999_999a,
         wrong,
     );
     wrong = tell(
@@ -67,7 +67,7 @@ pub(crate) fn figures(wrong: u64) -> u64 {
     );
     tell(
         b"P6: the root of 2^-1074 is 2^-537",
-        bits(terminal::qrh_sqrt(SMALLEST)) == (1023 - 537) * 0x10_0000_0000_0000,
+        bits(qrh::qrh_sqrt(SMALLEST)) == (1023 - 537) * 0x10_0000_0000_0000,
         wrong,
     )
 }

@@ -29,7 +29,7 @@ fn one_step(weight: f64, discount: f64, draw: f64) -> Step {
     let mut variances = [0.0; 2];
     let mut z = [0.0; 2];
     let mut factors = [0.0; 2];
-    let answer = terminal::qrh_trace(
+    let answer = qrh::qrh_trace(
         &[weight],
         &[discount],
         params(1, 1, 0),
@@ -78,7 +78,7 @@ fn number_of(weights: &[f64], discounts: &[f64]) -> u32 {
     let mut variances = [0.0; 2];
     let mut z = [0.0; 2];
     let mut factors = [0.0; 20];
-    let answer = terminal::qrh_trace(
+    let answer = qrh::qrh_trace(
         weights,
         discounts,
         params(1, weights.len(), 0),
@@ -99,7 +99,7 @@ fn many_steps(steps: u32, number: u32, segment_at: u64, spot: f64) -> bool {
     let mut variances = [0.0; 4097];
     let mut z = [0.0; 4097];
     let mut factors = [0.0; 4097];
-    let answer = terminal::qrh_trace(
+    let answer = qrh::qrh_trace(
         &[1.0],
         &[4.0],
         params(1, 1, 0),
@@ -120,7 +120,7 @@ fn uses_own_dt() -> bool {
     let mut variances = [0.0; 6];
     let mut z = [0.0; 6];
     let mut factors = [0.0; 6];
-    let answer = terminal::qrh_trace(
+    let answer = qrh::qrh_trace(
         &[1.0],
         &[4.0],
         params(1, 1, 1),

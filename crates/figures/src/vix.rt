@@ -12,7 +12,7 @@ fn flat() -> bool {
         count: 1,
         factors: [whole(0); 10],
     };
-    let answer = terminal::qrh_vix(
+    let answer = qrh::qrh_vix(
         &[1.0],
         &[4.0],
         params(0, 1, 0),

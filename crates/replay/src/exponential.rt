@@ -32,7 +32,7 @@ pub(crate) fn replay(file: &[u8], at: usize, end: usize) -> bool {
     let mut room = workspace();
     let count = lend(file, after(lengths_at, 1), 2, &mut room);
     let work = &mut room[..count];
-    let answer = terminal::qrh_exponential(size(file, at), input, output, work);
+    let answer = qrh::qrh_exponential(size(file, at), input, output, work);
     let table_at = after(outcome_at, 6);
     let room_at = after_list(file, table_at);
     same_answer(file, outcome_at, answer)

@@ -14,7 +14,7 @@ mod outcome;
 mod scalar;
 mod tables;
 mod traces;
-mod vanilla;
+mod vanillas;
 mod vix;
 mod words;
 

@@ -4,7 +4,7 @@ use crate::inputs::params;
 use crate::tables::list;
 use crate::tables::zeros;
 use crate::traces;
-use crate::vanilla;
+use crate::vanillas;
 use crate::vix;
 use crate::words::after_list;
 
@@ -21,8 +21,8 @@ pub(crate) fn replay(file: &[u8], call: u64, at: usize, end: usize) -> bool {
     let params = params(file, params_at);
     match call {
         3 => traces::replay(file, rest_at, end, weights, discounts, params),
-        4 => vanilla::replay(file, rest_at, end, false, weights, discounts, params),
-        5 => vanilla::replay(file, rest_at, end, true, weights, discounts, params),
+        4 => vanillas::replay(file, rest_at, end, false, weights, discounts, params),
+        5 => vanillas::replay(file, rest_at, end, true, weights, discounts, params),
         6 => vix::evaluation(file, rest_at, end, weights, discounts, params),
         _ => vix::batch(file, rest_at, end, weights, discounts, params),
     }

@@ -10,7 +10,7 @@ use crate::words::word;
 pub(crate) fn convert(file: &[u8], at: usize, end: usize) -> bool {
     let outcome_at = after(at, 2);
     let value_at = after_head(outcome_at);
-    let answer = terminal::qrh_convert(decimal(file, at));
+    let answer = qrh::qrh_convert(decimal(file, at));
     let place = answer.place;
     same_head(file, outcome_at, answer.number, place)
         & same_values(file, value_at, &[answer.value])
@@ -21,7 +21,7 @@ pub(crate) fn convert(file: &[u8], at: usize, end: usize) -> bool {
 pub(crate) fn square_root(file: &[u8], at: usize, end: usize) -> bool {
     let outcome_at = after(at, 1);
     let root_at = after_head(outcome_at);
-    let root = terminal::qrh_sqrt(double(word(file, at)));
+    let root = qrh::qrh_sqrt(double(word(file, at)));
     same_head(file, outcome_at, 0, [0; 4])
         & same_values(file, root_at, &[root])
         & (after(root_at, 1) == end)

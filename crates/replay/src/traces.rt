@@ -63,7 +63,7 @@ fn traced(
     let mut factors = zeros();
     let count = lend(file, after(at, 3), 4, &mut factors);
     let f = &mut factors[..count];
-    let answer = terminal::qrh_trace(weights, discounts, params, segments, draws, s, v, z, f);
+    let answer = qrh::qrh_trace(weights, discounts, params, segments, draws, s, v, z, f);
     same_answer(file, outcome_at, answer)
         & same_tables(
             file,

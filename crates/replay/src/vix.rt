@@ -17,11 +17,11 @@ use crate::tables::workspace;
 use crate::tables::zeros;
 use crate::words::after;
 use crate::words::after_list;
-use calls::VixPayoff;
 use decimal::Decimal;
 use model::Params;
 use model::Segments;
-use terminal::VixBatchAnswer;
+use vix_batch::VixEstimate;
+use vix_batch::VixPayoff;
 use vix_value::Factors;
 use vix_value::VixValue;
 
@@ -56,7 +56,7 @@ pub(crate) fn evaluation(
     let mut room = workspace();
     let count = lend(file, length_at, 1, &mut room);
     let work = &mut room[..count];
-    let answer = terminal::qrh_vix(weights, discounts, params, window, given, work);
+    let answer = qrh::qrh_vix(weights, discounts, params, window, given, work);
     let room_at = after(after_head(outcome_at), 2);
     same_evaluation(file, outcome_at, answer)
         & same_workspace(file, room_at, 1, &room)
@@ -72,7 +72,7 @@ fn payoff(file: &[u8], at: usize) -> VixPayoff {
 }
 
 // Whether the answer is as at a place of the file: number and place, four values, two counts.
-fn same_answer(file: &[u8], at: usize, answer: VixBatchAnswer) -> bool {
+fn same_answer(file: &[u8], at: usize, answer: VixEstimate) -> bool {
     let values_at = after_head(at);
     let place = answer.place;
     let values = [
@@ -110,8 +110,8 @@ fn priced(
     let work = &mut room[..count];
     let mut table = zeros();
     let count = lend(file, after(at, 1), 2, &mut table);
-    let seen = &mut table[..count];
-    let answer = terminal::qrh_vix_batch(
+    let observations = &mut table[..count];
+    let answer = qrh::qrh_vix_batch(
         weights,
         discounts,
         params,
@@ -121,7 +121,7 @@ fn priced(
         paths,
         draws,
         work,
-        seen,
+        observations,
     );
     same_answer(file, outcome_at, answer)
         & same_table(file, table_at, 2, &table)

@@ -1,7 +1,7 @@
--- `terminal::qrh_exponential` meets its contract, which is that of the call. Assumes nothing.
+-- `qrh::qrh_exponential` meets its contract, which is that of the call. Assumes nothing.
 use borrow.Author.Needs.{needs}
-use Rattle.terminal.proofs.qrh_exponential.Statement.{statement}
-use Rattle.terminal.proofs.qrh_exponential.Tie as tie
+use Rattle.qrh.proofs.qrh_exponential.Statement.{statement}
+use Rattle.qrh.proofs.qrh_exponential.Tie as tie
 
 exponentiate-requires : tie.Need-exponentiate-requires
 exponentiate-requires c κs = search needs

@@ -1,7 +1,7 @@
--- `terminal::qrh_trace` meets its contract, which is that of the trace call. Assumes nothing.
+-- `qrh::qrh_trace` meets its contract, which is that of the trace call. Assumes nothing.
 use borrow.Author.Needs.{needs}
-use Rattle.terminal.proofs.qrh_trace.Statement.{statement}
-use Rattle.terminal.proofs.qrh_trace.Tie as tie
+use Rattle.qrh.proofs.qrh_trace.Statement.{statement}
+use Rattle.qrh.proofs.qrh_trace.Tie as tie
 
 trace-requires : tie.Need-trace-requires
 trace-requires c κs = search needs

@@ -5,11 +5,11 @@ use crate::given::whole;
 use crate::report::is_at;
 use crate::report::same;
 use crate::report::tell;
-use terminal::VanillaAnswer;
+use vanilla::Estimate;
 
 // So many paths with these draws.
-fn call_at_100(paths: usize, draws: &[f64], observations: &mut [f64]) -> VanillaAnswer {
-    terminal::qrh_vanilla(
+fn call_at_100(paths: usize, draws: &[f64], observations: &mut [f64]) -> Estimate {
+    qrh::qrh_vanilla(
         &[1.0],
         &[4.0],
         params(1, 1, 0),

@@ -1,7 +1,7 @@
--- `terminal::qrh_vix` meets its contract, which is that of the call. Assumes nothing.
+-- `qrh::qrh_vix` meets its contract, which is that of the call. Assumes nothing.
 use borrow.Author.Needs.{needs}
-use Rattle.terminal.proofs.qrh_vix.Statement.{statement}
-use Rattle.terminal.proofs.qrh_vix.Tie as tie
+use Rattle.qrh.proofs.qrh_vix.Statement.{statement}
+use Rattle.qrh.proofs.qrh_vix.Tie as tie
 
 evaluate-requires : tie.Need-evaluate-requires
 evaluate-requires c κs = search needs

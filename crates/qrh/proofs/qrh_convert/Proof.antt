@@ -1,4 +1,4 @@
--- `terminal::qrh_convert` meets its contract: in each arm the answer is the one that `conversion`
+-- `qrh::qrh_convert` meets its contract: in each arm the answer is the one that `conversion`
 -- lists. Assumes nothing.
 use mathlib.Core.Path.{_≡_, sym, ap, _∙_, subst}
 use mathlib.Core.Bool.{false, true≢false}
@@ -8,11 +8,11 @@ use Rattle.decimal.specs.Decimal.{scaleFits, ConvertsToNearest}
 use Rattle.decimal.specs.Inner.Answers.{AnswersNearest}
 use borrow.Author.Needs.{needs}
 use Rattle.numeric.proofs.Doubles.{zero-is}
-use Rattle.terminal.specs.declared.Conversion.{Conversion}
+use Rattle.qrh.specs.declared.Conversion.{Conversion}
 use Rattle.refusal.specs.Refusal.{noPlace}
-use Rattle.terminal.specs.Answers.{conversion}
-use Rattle.terminal.proofs.qrh_convert.Statement.{statement}
-use Rattle.terminal.proofs.qrh_convert.Tie as tie
+use Rattle.qrh.specs.Conversion.{conversion}
+use Rattle.qrh.proofs.qrh_convert.Statement.{statement}
+use Rattle.qrh.proofs.qrh_convert.Tie as tie
 
 abbrev refusal : Float → Conversion
 refusal v = record { number = 1; place = noPlace; value = v }

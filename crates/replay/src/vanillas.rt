@@ -17,7 +17,7 @@ use crate::words::after_list;
 use decimal::Decimal;
 use model::Params;
 use model::Segments;
-use terminal::VanillaAnswer;
+use vanilla::Estimate;
 
 // The call, in either form.
 fn price(
@@ -30,10 +30,10 @@ fn price(
     strike: Decimal,
     paths: usize,
     draws: &[f64],
-    seen: &mut [f64],
-) -> VanillaAnswer {
+    observations: &mut [f64],
+) -> Estimate {
     if mirrored {
-        return terminal::qrh_mirrored(
+        return qrh::qrh_mirrored(
             weights,
             discounts,
             params,
@@ -42,10 +42,10 @@ fn price(
             strike,
             paths,
             draws,
-            seen,
+            observations,
         );
     }
-    terminal::qrh_vanilla(
+    qrh::qrh_vanilla(
         weights,
         discounts,
         params,
@@ -54,12 +54,12 @@ fn price(
         strike,
         paths,
         draws,
-        seen,
+        observations,
     )
 }
 
 // Whether the answer is as at a place of the file: number and place, four values, three counts.
-fn same_answer(file: &[u8], at: usize, answer: VanillaAnswer) -> bool {
+fn same_answer(file: &[u8], at: usize, answer: Estimate) -> bool {
     let values_at = after_head(at);
     let place = answer.place;
     let values = [
@@ -97,7 +97,7 @@ pub(crate) fn replay(
     let draws = &draws[..count];
     let mut table = zeros();
     let count = lend(file, length_at, 1, &mut table);
-    let seen = &mut table[..count];
+    let observations = &mut table[..count];
     let answer = price(
         mirrored,
         weights,
@@ -108,7 +108,7 @@ pub(crate) fn replay(
         strike,
         paths,
         draws,
-        seen,
+        observations,
     );
     let table_at = after(after_head(outcome_at), 7);
     same_answer(file, outcome_at, answer)
