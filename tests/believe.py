@@ -172,7 +172,8 @@ def free_names(text, imports, is_record=False):
     # What is bound within each bracket that is open, the outermost first; and a record's fields.
     scopes, brackets, fields, names = [set()], [""], None, []
     i = 0
-    if not is_record and "=" in tokens and ":" not in tokens[: tokens.index("=")]:
+    is_clause = tokens[0] in OPEN
+    if not is_record and not is_clause and "=" in tokens and ":" not in tokens[: tokens.index("=")]:
         # An equation: before its = stand the function, constructors and variables.
         i = tokens.index("=") + 1
         scopes[0] = variables(tokens[:i], imports)

@@ -4,6 +4,7 @@ use mathlib.Core.Bool.{true, false}
 use mathlib.Core.List.{List, [], _∷_}
 use Prim.Native.Nat.{ℕ, zero, suc}
 use native.Mathlib.Omega.{arith}
+use lib.ListN.{length}
 use lib.Ieee.{Float, inf, le, round, ofBits}
 use Rattle.numeric.specs.Double.{plusZero}
 use Rattle.decimal.specs.Decimal.{value, isNegative, isPositive, scaleFits}
@@ -15,16 +16,15 @@ use Rattle.refusal.specs.Questions.{firstNo, each}
 use Rattle.refusal.specs.Refusal.{noPlace}
 use Rattle.model.specs.declared.Finiteness.the-variants.{NonFinite}
 use Rattle.model.specs.Kernel.{inRange}
-use Rattle.model.specs.Schedule.{stepsThrough}
+use Rattle.model.specs.Parameters.{startOf}
+use Rattle.model.specs.Schedule.{scheduleOf, stepsThrough}
 use Rattle.model.specs.Step.{finiteness}
 use Rattle.model.specs.Walk.{stateAfter}
 use Rattle.doors.specs.Questions.{rangeQuestions, scaleQuestions}
-use Rattle.walks.specs.declared.Observed.the-variants.{Spot}
 use Rattle.batch.specs.Claim.{BatchAnswer, OneTo, stateOf, FiniteAt, SomeStepFails, FirstFailure}
 use Rattle.batch.specs.Claim.{Reaches, reportOf}
-use Rattle.calls.specs.Batches.{batchFor}
-use Rattle.calls.specs.Vanilla.{VanillaInputs, vanillaQuestions, vanillaBatch, vanillaPayoff}
-use Rattle.calls.specs.VixBatch.{VixBatchInputs, vixBatchInputs, vixBatchQuestions}
+use Rattle.vanilla.specs.Call.{VanillaInputs, vanillaQuestions, vanillaBatch, vanillaPayoff}
+use Rattle.vix_batch.specs.Call.{VixBatchInputs, vixBatchInputs, vixBatchQuestions}
 use Rattle.figures.specs.Given.{bits, decimal, steps, oneStep, modelOf, callAt100, calm}
 
 -- ---- the batches
@@ -39,7 +39,7 @@ minusOne = bits 0xBFF0000000000000
 abbrev pub nine : VanillaInputs
 nine = callAt100 oneStep false (half ∷ minusOne ∷ [])
 
--- that of P10: "second draw infinite"
+-- that of P10, whose second draw is infinite
 abbrev pub ten : VanillaInputs
 ten = callAt100 oneStep false (half ∷ inf false ∷ [])
 
@@ -60,9 +60,12 @@ mirrored = callAt100 oneStep true (half ∷ [])
 -- a future on the VIX, with a = 0 and the window of P12
 abbrev pub vix : VixBatchInputs
 vix =
-    vixBatchInputs (modelOf calm oneStep) (decimal 25 2)
-    (record { future = true; put = false; strike = decimal 0 0 })
-    2
+    vixBatchInputs (modelOf calm oneStep)
+    (record {
+      window = decimal 25 2;
+      payoff = record { future = true; put = false; strike = decimal 0 0 };
+      paths = 2;
+    })
     (half ∷ minusOne ∷ [])
 
 -- the table that each is lent: a row a path, one column
@@ -75,14 +78,14 @@ unfoldable pub vanillaAsked : VanillaInputs → Outcome
 unfolding
     vanillaQuestions firstNo each inRange le rangeQuestions scaleQuestions stepsThrough
     isNegative isPositive scaleFits value round ofBits
-vanillaAsked i = firstNo (vanillaQuestions i lent)
+vanillaAsked i = firstNo (vanillaQuestions i (length lent))
 
 -- with a workspace of 80 doubles
 unfoldable pub vixAsked : VixBatchInputs → Outcome
 unfolding
     vixBatchQuestions firstNo each inRange le rangeQuestions scaleQuestions stepsThrough
     isNegative isPositive scaleFits value round ofBits
-vixAsked i = firstNo (vixBatchQuestions i 80 lent)
+vixAsked i = firstNo (vixBatchQuestions i 80 (length lent))
 
 pub nine-admitted : vanillaAsked nine ≡ Passed
 unfolding vanillaAsked
@@ -111,7 +114,7 @@ vix-admitted = refl
 -- ---- what they come to
 
 abbrev pub report : VanillaInputs → BatchAnswer
-report i = reportOf (vanillaBatch i) Spot (vanillaPayoff i)
+report i = reportOf (vanillaBatch i) (vanillaPayoff i)
 
 -- a price over two paths of one step
 abbrev pub pricedAt : Float → Float → Float → Float → List ℕ → BatchAnswer
@@ -124,7 +127,7 @@ pricedAt price priceError spot spotError counts =
       steps = 2;
     }
 
--- "price 25, error 25, spot mean 75, error 75, one non-positive, 2 steps"
+-- P9: price 25 and error 25, spot 75 and error 75, one path non-positive, 2 steps
 abbrev pub priceOfNine : BatchAnswer
 priceOfNine =
     pricedAt (value (decimal 25 0)) (value (decimal 25 0)) (value (decimal 75 0))
@@ -132,14 +135,14 @@ priceOfNine =
     (2 ∷ 1 ∷ [])
 
 pub nine-report : report nine ≡ priceOfNine
-unfolding reportOf batchFor value round ofBits
+unfolding reportOf startOf scheduleOf value round ofBits
 nine-report = refl
 
 -- both spots are 150
 pub level-report :
     report level
     ≡ pricedAt (value (decimal 50 0)) plusZero (value (decimal 150 0)) plusZero (2 ∷ 0 ∷ [])
-unfolding reportOf batchFor value round ofBits
+unfolding reportOf startOf scheduleOf value round ofBits
 level-report = refl
 
 -- ---- which steps are finite
@@ -165,22 +168,22 @@ both-finite i h l p k is-path is-step =
     (two (λ p. FiniteAt (vanillaBatch i) p 1) h l p is-path) k is-step
 
 pub nine-passes : SomeStepFails (vanillaBatch nine) → ⊥
-unfolding batchFor stateAfter finiteness value round ofBits
+unfolding startOf scheduleOf stateAfter finiteness value round ofBits
 nine-passes s =
     s .fails (both-finite nine refl refl (s .path) (s .step) (s .is-path) (s .is-step))
 
 pub level-passes : SomeStepFails (vanillaBatch level) → ⊥
-unfolding batchFor stateAfter finiteness value round ofBits
+unfolding startOf scheduleOf stateAfter finiteness value round ofBits
 level-passes s =
     s .fails (both-finite level refl refl (s .path) (s .step) (s .is-path) (s .is-step))
 
 -- P10 stops on path 2, at step 1, with the spot
 pub ten-first : FiniteAt (vanillaBatch ten) 1 1
-unfolding batchFor stateAfter finiteness value round ofBits
+unfolding startOf scheduleOf stateAfter finiteness value round ofBits
 ten-first = refl
 
 pub ten-fails : finiteness (stateOf (vanillaBatch ten) 2 1) ≡ NonFinite quantity.Spot
-unfolding batchFor stateAfter finiteness value round ofBits
+unfolding startOf scheduleOf stateAfter finiteness value round ofBits
 ten-fails = refl
 
 pub record StopOfTen (p k : ℕ) (q : Quantity) : Type 0 where
@@ -199,13 +202,13 @@ on-2 : (q : Quantity) → Stops 2 1 q
 on-2 q fails = let spot = ten-fails in record { path = refl; step = refl; quantity = cc }
 
 pub ten-stops : (p k : ℕ) (q : Quantity) → FirstFailure (vanillaBatch ten) p k q → StopOfTen p k q
-unfolding batchFor
+unfolding startOf scheduleOf
 ten-stops p k q stop =
     one (λ k. Stops p k q) (two (λ p. Stops p 1 q) (not-on-1 q) (on-2 q) p (stop .is-path)) k
     (stop .is-step) (stop .fails)
 
 pub ten-refused : SomeStepFails (vanillaBatch ten)
-unfolding batchFor
+unfolding startOf scheduleOf
 ten-refused =
     record {
       path = 2;
@@ -220,7 +223,7 @@ ten-refused =
 
 -- so it does not reach the end of its segment
 pub ten-ends : Reaches (vanillaBatch ten) 2 1 → ⊥
-unfolding batchFor stateAfter finiteness value round ofBits
+unfolding startOf scheduleOf stateAfter finiteness value round ofBits
 ten-ends reaches =
     let finite = reaches .steps 1 (omega arith) (omega arith) in
     let fails = ten-fails in
@@ -229,7 +232,7 @@ ten-ends reaches =
 
 -- path 1 reaches the end of its segment
 pub nine-reaches : Reaches (vanillaBatch nine) 1 1
-unfolding batchFor stateAfter finiteness value round ofBits
+unfolding startOf scheduleOf stateAfter finiteness value round ofBits
 nine-reaches =
     record {
       steps = λ k from upto.
@@ -239,7 +242,7 @@ nine-reaches =
     }
 
 pub twice-reaches : Reaches (vanillaBatch twice) 1 1
-unfolding batchFor stateAfter finiteness value round ofBits
+unfolding startOf scheduleOf stateAfter finiteness value round ofBits
 twice-reaches =
     record {
       steps = λ k from upto.

@@ -2,9 +2,9 @@
 use mathlib.Core.Path.{_≡_, refl}
 use mathlib.Core.Bool.{true}
 use mathlib.Core.List.{[], _∷_}
-use Prim.Native.Nat.{ℕ, zero, suc, _*_, _<_, _≤_}
+use Prim.Native.Nat.{ℕ, zero, suc, _<_, _≤_}
 use native.Mathlib.Omega.{arith}
-use lib.ListN.{length, getD}
+use lib.ListN.{getD}
 use lib.Ieee.{nan, fits, le, round, ofBits}
 use Rattle.numeric.specs.Double.{plusZero, magnitude}
 use Rattle.decimal.specs.declared.Decimal.{Decimal}
@@ -12,21 +12,17 @@ use Rattle.decimal.specs.Decimal.{value}
 use Rattle.model.specs.Inner.Admitted.{Converted, Admitted}
 use Rattle.model.specs.Inner.Laid.{Laid}
 use Rattle.model.specs.Kernel.{inRange}
-use Rattle.model.specs.Parameters.{rawParams, startOf}
+use Rattle.model.specs.Parameters.{startOf}
 use Rattle.model.specs.Schedule.{lastStep, scheduleOf}
-use Rattle.walks.specs.declared.Observed.{Observed}
-use Rattle.walks.specs.declared.Observed.the-variants.{Spot, VixSquared}
-use Rattle.batch.specs.declared.Payoff.{Payoff}
-use Rattle.walks.specs.Batch.{Batch}
-use Rattle.batch.specs.Run.{tableAfter}
+use Rattle.model.specs.Simulation.{simulationOf}
+use Rattle.paths.specs.Run.{tableAfter}
+use Rattle.batch.specs.Report.{pricedRun}
 use Rattle.batch.specs.Claim.{BatchClaim}
-use Rattle.batch.proofs.Claim.{run-claim}
-use Rattle.calls.specs.Batches.{batchFor, pricedRun, answerOf}
-use Rattle.calls.specs.Vanilla.{vanillaBatch, vanillaPayoff}
-use Rattle.calls.specs.VixBatch.{vixBatch, vixBatchCall, payoffFor}
+use Rattle.batch.proofs.Claim.{batch-claim}
+use Rattle.vanilla.specs.Call.{vanillaBatch, vanillaPayoff}
+use Rattle.vix_batch.specs.Call.{vixBatch, payoffFor}
 use Rattle.vix_value.specs.Call.{vixCall}
-use Rattle.calls.proofs.Claims.{batch-claim}
-use Rattle.figures.specs.Given.{decimal, kernel, withA, params, calm, oneStep}
+use Rattle.figures.specs.Given.{decimal, kernel, withA, params, calm, oneStep, modelOf}
 use Rattle.figures.specs.Admitted.{nine, mirrored, vix, lent, priceOfNine, pricedAt}
 
 -- ---- what the questions leave of the model
@@ -56,7 +52,7 @@ at-first P h (suc i) l = absurd (omega (arith, l))
 -- with an a as converted
 admitted :
     (a : Decimal) → magnitude (value a) ≡ value a → Converted (value a)
-    → Admitted kernel (rawParams (withA a)) (startOf kernel (withA a))
+    → Admitted (simulationOf (modelOf (withA a) oneStep))
 unfolding startOf inRange value round ofBits le fits
 admitted a not-negative converted =
     record {
@@ -78,45 +74,39 @@ admitted a not-negative converted =
       start-read = refl;
     }
 
-params-admitted : Admitted kernel (rawParams params) (startOf kernel params)
+params-admitted : Admitted (simulationOf (modelOf params oneStep))
 unfolding value round ofBits le fits
 params-admitted = admitted (decimal 1 0) refl (record { double = refl; small = refl })
 
-calm-admitted : Admitted kernel (rawParams calm) (startOf kernel calm)
+calm-admitted : Admitted (simulationOf (modelOf calm oneStep))
 unfolding value round ofBits le fits
 calm-admitted = admitted (decimal 0 0) refl (record { double = refl; small = refl })
 
 -- ---- the claim, of what the definitions answer
 
-pub claimed :
-    (b : Batch) (o : Observed) (payoff : Payoff) → Laid (b .schedule)
-    → Admitted (b .kernel) (b .raw) (b .start) → length lent ≡ b .paths * b .schedule .count
-    → BatchClaim b o payoff lent (tableAfter b lent) (answerOf o (pricedRun o b payoff))
-claimed b o payoff laid admitted rows =
-    batch-claim b o payoff laid (run-claim b laid admitted lent _ _ rows refl refl)
-
--- "price 25, error 25, spot mean 75, error 75, one non-positive, 2 steps"
+-- P9: price 25 and error 25, spot 75 and error 75, one path non-positive, 2 steps
 pub nine-claimed :
-    BatchClaim (vanillaBatch nine) Spot (vanillaPayoff nine) lent
+    BatchClaim (vanillaBatch nine) (vanillaPayoff nine) lent
     (value (decimal 150 0) ∷ plusZero ∷ []) priceOfNine
-unfolding batchFor tableAfter pricedRun value round ofBits
-nine-claimed = claimed (vanillaBatch nine) Spot (vanillaPayoff nine) one-laid params-admitted refl
+unfolding startOf scheduleOf tableAfter pricedRun value round ofBits
+nine-claimed =
+    batch-claim (vanillaBatch nine) (vanillaPayoff nine) one-laid params-admitted lent refl
 
 -- spots 150 and 50
 pub mirrored-claimed :
-    BatchClaim (vanillaBatch mirrored) Spot (vanillaPayoff mirrored) lent
+    BatchClaim (vanillaBatch mirrored) (vanillaPayoff mirrored) lent
     (value (decimal 150 0) ∷ value (decimal 50 0) ∷ [])
     (pricedAt (value (decimal 25 0)) (value (decimal 25 0)) (value (decimal 100 0))
     (value (decimal 50 0)) (2 ∷ 0 ∷ []))
-unfolding batchFor tableAfter pricedRun value round ofBits
+unfolding startOf scheduleOf tableAfter pricedRun value round ofBits
 mirrored-claimed =
-    claimed (vanillaBatch mirrored) Spot (vanillaPayoff mirrored) one-laid params-admitted refl
+    batch-claim (vanillaBatch mirrored) (vanillaPayoff mirrored) one-laid params-admitted lent refl
 
--- "VIX squared 40000, index 200", on both paths
+-- VIX squared 40000 and index 200, on both paths
 pub vix-claimed :
-    BatchClaim (vixBatch vix) VixSquared (payoffFor (vix .payoff)) lent
+    BatchClaim (vixBatch vix) (payoffFor (vix .order .payoff)) lent
     (value (decimal 40000 0) ∷ value (decimal 40000 0) ∷ [])
     (pricedAt (value (decimal 200 0)) plusZero (value (decimal 200 0)) plusZero (2 ∷ []))
-unfolding vixBatchCall vixCall tableAfter value round ofBits
+unfolding startOf scheduleOf vixCall tableAfter pricedRun value round ofBits
 vix-claimed =
-    claimed (vixBatch vix) VixSquared (payoffFor (vix .payoff)) one-laid calm-admitted refl
+    batch-claim (vixBatch vix) (payoffFor (vix .order .payoff)) one-laid calm-admitted lent refl

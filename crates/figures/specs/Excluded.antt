@@ -1,7 +1,6 @@
--- The wrong cores that the batch's claim excludes: those that term (c) of document 01 lists, and
--- the others that its fields name (crates/batch/specs/Claim.antt). What each answers to a small
--- admitted batch, or leaves in its table, does not meet the claim. Each proof looks at one field of
--- the claim, the one that says so.
+-- Rule 18.13: the wrong cores that the batch's claim excludes, as its fields name them
+-- (crates/batch/specs/Claim.antt). What each answers to a small admitted batch, or leaves in its
+-- table, does not meet the claim. Each proof looks at one field of the claim, the one that says so.
 use mathlib.Core.Path.{_≡_, refl, sym, ap, _∙_}
 use mathlib.Core.Bool.{true, false}
 use mathlib.Core.List.{List, [], _∷_}
@@ -11,19 +10,26 @@ use lib.ListN.{getD}
 use lib.Ieee.{Float, nan, lt, round, ofBits}
 use Rattle.numeric.specs.Double.{plusZero}
 use Rattle.decimal.specs.Decimal.{value}
+use Rattle.refusal.specs.declared.Outcome.the-variants.{Passed}
+use Rattle.model.specs.Parameters.{startOf}
+use Rattle.model.specs.Schedule.{scheduleOf}
 use Rattle.model.specs.Walk.{stateAfter}
-use Rattle.batch.specs.Claim.{BatchAnswer, OneTo, stateOf, entry}
-use Rattle.calls.specs.Batches.{batchFor}
-use Rattle.calls.specs.Vanilla.{VanillaInputs, vanillaBatch, VanillaClaim}
+use Rattle.batch.specs.Claim.{BatchAnswer, OneTo, stateOf, entry, BatchClaim}
+use Rattle.vanilla.specs.Call.{VanillaInputs, vanillaBatch, vanillaPayoff}
 use Rattle.figures.specs.Admitted.{nine, ten, level, twice, lent, vanillaAsked}
 use Rattle.figures.specs.Admitted.{nine-admitted, nine-passes, nine-report, nine-reaches}
 use Rattle.figures.specs.Admitted.{level-admitted, level-passes, level-report}
 use Rattle.figures.specs.Admitted.{ten-admitted, ten-stops, ten-refused, ten-ends}
 use Rattle.figures.specs.Admitted.{twice-admitted, twice-reaches}
 
--- the claim of a batch, of its table and its answer, does not hold
+-- the claim of a batch, of its table and its answer, as its call has it (`BatchAnswered`)
+abbrev Claim : VanillaInputs → List Float → BatchAnswer → Type 0
+Claim i after answer =
+    vanillaAsked i ≡ Passed → BatchClaim (vanillaBatch i) (vanillaPayoff i) lent after answer
+
+-- it does not hold
 abbrev Excluded : VanillaInputs → List Float → BatchAnswer → Type 0
-Excluded i after answer = VanillaClaim i lent after answer → ⊥
+Excluded i after answer = Claim i after answer → ⊥
 
 first-of-one : OneTo 1 1
 first-of-one = record { from = omega arith; upto = omega arith }
@@ -43,14 +49,12 @@ apart below same e = let z : _≡_ {A = ℕ} 0 1 = cc in omega arith
 -- as non-finite, though each step is finite: by `exactly`
 pub refuses-everything :
     (after : List Float) (answer : BatchAnswer) → answer .number ≡ 22 → Excluded nine after answer
-unfolding VanillaClaim vanillaAsked
 refuses-everything after answer is-22 claim = nine-passes (claim nine-admitted .exactly .0 is-22)
 
 -- by any number: by `otherwise`
 pub refuses-by-another-number :
     (after : List Float) (answer : BatchAnswer) → (answer .number ≡ 0 → ⊥)
     → Excluded nine after answer
-unfolding VanillaClaim vanillaAsked
 refuses-by-another-number after answer refuses claim =
     refuses
     (ap (λ (a : BatchAnswer). a .number)
@@ -74,7 +78,6 @@ refuses-as-24 after doubles counts =
 pub before-the-first-step :
     (after : List Float) (answer : BatchAnswer) → answer .number ≡ 22 → answer .steps ≡ 0
     → Excluded ten after answer
-unfolding VanillaClaim vanillaAsked
 before-the-first-step after answer is-22 none claim =
     let named = claim ten-admitted .names is-22 in
     omega (arith, none, named .taken, named .first .is-step .from)
@@ -84,7 +87,7 @@ pub repeats-the-first-state :
     (after : List Float) (answer : BatchAnswer)
     → entry (vanillaBatch twice) after 1 1 ≡ stateOf (vanillaBatch twice) 1 1 .spot
     → Excluded twice after answer
-unfolding VanillaClaim vanillaAsked batchFor stateAfter value round ofBits lt
+unfolding startOf scheduleOf stateAfter value round ofBits lt
 repeats-the-first-state after answer repeated claim =
     let observed =
     claim twice-admitted .written .observed 1 1 first-of-two first-of-one twice-reaches in
@@ -92,7 +95,7 @@ repeats-the-first-state after answer repeated claim =
 
 -- ---- a core that writes no observation: by `written .observed`
 pub writes-no-observation : (answer : BatchAnswer) → Excluded nine lent answer
-unfolding VanillaClaim vanillaAsked batchFor stateAfter value round ofBits lt
+unfolding startOf scheduleOf stateAfter value round ofBits lt
 writes-no-observation answer claim =
     apart refl refl
     (claim nine-admitted .written .observed 1 1 first-of-two first-of-one nine-reaches)
@@ -101,8 +104,8 @@ writes-no-observation answer claim =
 pub fixed-price :
     (price : Float) (after after′ : List Float) (answer answer′ : BatchAnswer)
     → getD (answer .doubles) 0 nan ≡ price → getD (answer′ .doubles) 0 nan ≡ price
-    → VanillaClaim nine lent after answer → Excluded level after′ answer′
-unfolding VanillaClaim vanillaAsked value round ofBits lt
+    → Claim nine after answer → Excluded level after′ answer′
+unfolding value round ofBits lt
 fixed-price price after after′ answer answer′ fixed fixed′ claim claim′ =
     let first : BatchAnswer → Float = λ a. getD (a .doubles) 0 nan in
     let is-25 = ap first (claim nine-admitted .otherwise nine-passes ∙ nine-report) in
@@ -115,7 +118,6 @@ fixed-price price after after′ answer answer′ fixed fixed′ claim claim′ 
 pub invents-the-total :
     (after : List Float) (answer : BatchAnswer) → (answer .steps ≡ 2 → ⊥)
     → Excluded nine after answer
-unfolding VanillaClaim vanillaAsked
 invents-the-total after answer other claim =
     other
     (ap (λ (a : BatchAnswer). a .steps)
@@ -125,7 +127,7 @@ invents-the-total after answer other claim =
 pub invents-the-total-at-a-stop :
     (after : List Float) (answer : BatchAnswer) → answer .number ≡ 22 → (answer .steps ≡ 2 → ⊥)
     → Excluded ten after answer
-unfolding VanillaClaim vanillaAsked batchFor
+unfolding startOf scheduleOf
 invents-the-total-at-a-stop after answer is-22 other claim =
     let named = claim ten-admitted .names is-22 in
     let stop = ten-stops (named .path) (named .step) (named .quantity) (named .first) in
@@ -135,14 +137,13 @@ invents-the-total-at-a-stop after answer is-22 other claim =
 pub goes-past-the-stop :
     (after : List Float) (answer : BatchAnswer) → (answer .number ≡ 22 → ⊥)
     → Excluded ten after answer
-unfolding VanillaClaim vanillaAsked
 goes-past-the-stop after answer other claim = other (claim ten-admitted .exactly .1 ten-refused)
 
 -- ---- a core that names another path, step or quantity: by `names`
 pub names-another-place :
     (after : List Float) (answer : BatchAnswer) → answer .number ≡ 22
     → (answer .place ≡ 2 ∷ 1 ∷ 1 ∷ answer .steps ∷ [] → ⊥) → Excluded ten after answer
-unfolding VanillaClaim vanillaAsked batchFor
+unfolding startOf scheduleOf
 names-another-place after answer is-22 other claim =
     let named = claim ten-admitted .names is-22 in
     let stop = ten-stops (named .path) (named .step) (named .quantity) (named .first) in
@@ -152,6 +153,6 @@ names-another-place after answer is-22 other claim =
 pub writes-at-the-stop :
     (after : List Float) (answer : BatchAnswer)
     → (entry (vanillaBatch ten) after 2 1 ≡ plusZero → ⊥) → Excluded ten after answer
-unfolding VanillaClaim vanillaAsked batchFor
+unfolding startOf scheduleOf
 writes-at-the-stop after answer other claim =
     other (claim ten-admitted .written .untouched 2 1 second-of-two first-of-one ten-ends)

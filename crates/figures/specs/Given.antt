@@ -1,5 +1,5 @@
--- The inputs of the figures: "n = 1, weight 1, discount 4, a = 1, b = 0, c = 4, lambda = eta = 1,
--- spot 100, factor 0, dt 0.25". Definitions only.
+-- Rule 19.1: the inputs of the figures: n = 1, weight 1, discount 4, a = 1, b = 0, c = 4,
+-- lambda = eta = 1, spot 100, factor 0, dt 0.25. Definitions only.
 use mathlib.Core.Bool.{Bool, false}
 use mathlib.Core.List.{List, [], _∷_}
 use Prim.Native.Nat.{ℕ, _/_, _%_, _^_}
@@ -10,7 +10,7 @@ use Rattle.model.specs.declared.Params.{Params}
 use Rattle.model.specs.declared.Segments.{Segments}
 use Rattle.model.specs.Kernel.{kernelOf}
 use Rattle.model.specs.Simulation.{Given, given}
-use Rattle.calls.specs.Vanilla.{VanillaInputs, vanillaInputs}
+use Rattle.vanilla.specs.Call.{VanillaInputs, vanillaInputs}
 
 -- the double of these bits
 abbrev pub bits : ℕ → Float
@@ -52,7 +52,7 @@ withA a =
 abbrev pub params : Params
 params = withA (decimal 1 0)
 
--- "a = 0"
+-- with a = 0
 abbrev pub calm : Params
 calm = withA (decimal 0 0)
 
@@ -69,4 +69,6 @@ modelOf p segments = given weights discounts p segments
 -- a call at 100 over two paths
 abbrev pub callAt100 : Segments → Bool → List Float → VanillaInputs
 callAt100 segments mirrored draws =
-    vanillaInputs (modelOf params segments) false (decimal 100 0) mirrored 2 draws
+    vanillaInputs (modelOf params segments)
+    (record { put = false; strike = decimal 100 0; mirrored = mirrored; paths = 2 })
+    draws

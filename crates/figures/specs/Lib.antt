@@ -3,3 +3,4 @@ pub mod Twelve
 pub mod Admitted
 pub mod Claimed
 pub mod Excluded
+pub mod Samples

@@ -1,20 +1,20 @@
--- Two segments of document 01 that antt computes: that the definitions say what is meant.
+-- Rule 19.2: the dt of a step, of two segments, as the definitions have it.
 use mathlib.Core.Path.{_≡_, refl}
 use mathlib.Core.Bool.{false}
 use mathlib.Core.List.{[], _∷_}
 use Prim.Native.Nat.{ℕ}
 use lib.Ieee.{binary64, ofBits}
 use Rattle.decimal.specs.Decimal.{value}
 use Rattle.model.specs.declared.Segment.{Segment}
 use Rattle.model.specs.declared.Segments.{Segments}
 use Rattle.model.specs.Schedule.{scheduleOf, dtAt}
 
 -- steps of percent / 100 years
 segment : ℕ → ℕ → Segment
 segment percent steps =
     record { dt = record { low = percent; high = 0; scale = 2; negative = false }; steps = steps }
 
--- "Segments (0.25, 2), (0.5, 3): step 2 uses 0.25, step 3 uses 0.5."
+-- 2 steps of 0.25 and 3 steps of 0.5: step 2 takes 0.25 and step 3 takes 0.5
 twoSegments : Segments
 twoSegments = record { count = 2; segments = segment 25 2 ∷ segment 50 3 ∷ [] }
 

@@ -1,11 +1,11 @@
--- "The twelve P figures form one computed list of the definitions with one theorem": P1 to P12 of
--- document 01, as the outer calls answer them. They are proved here and nowhere else. Every double,
--- given or expected, stands by its bits, so that no figure rests on the conversion that it checks.
+-- Rule 19.1: the figures P1 to P12, as the outer calls answer them, as one list with one theorem.
+-- They are proved here and nowhere else. Every double, given or expected, stands by its bits, so that
+-- no figure rests on the conversion that it checks.
 use mathlib.Core.Path.{_≡_, refl}
 use mathlib.Core.Bool.{false}
 use mathlib.Core.List.{List, [], _∷_}
 use Prim.Native.Nat.{ℕ}
-use lib.ListN.{getD, replicate}
+use lib.ListN.{length, getD, replicate}
 use lib.Ieee.{Float, nan, binary64, ofBits, round}
 use Rattle.numeric.specs.Root.{root}
 use Rattle.decimal.specs.declared.Decimal.{Decimal}
@@ -13,13 +13,15 @@ use Rattle.decimal.specs.Decimal.{value, convert, isNegative, isPositive, scale
 use Rattle.refusal.specs.Questions.{firstNo, each}
 use Rattle.model.specs.Kernel.{inRange}
 use Rattle.doors.specs.Questions.{rangeQuestions, scaleQuestions}
-use Rattle.model.specs.Schedule.{stepsThrough}
+use Rattle.model.specs.Parameters.{startOf}
+use Rattle.model.specs.Schedule.{scheduleOf, stepsThrough}
 use Rattle.trace.specs.Trace.{tables, tableAfter}
 use Rattle.trace.specs.Call.{traceInputs, traceCall, traceTables}
 use Rattle.exponentiation.specs.Call.{matrixInputs, exponentialCall, exponentialTable}
 use Rattle.refusal.specs.Refusal.{noPlace}
-use Rattle.terminal.specs.Answers.{conversion, vanillaAnswer}
-use Rattle.calls.specs.Vanilla.{vanillaCall}
+use Rattle.batch.specs.Answered.{pricedOnceAsked}
+use Rattle.vanilla.specs.Call.{vanillaQuestions, vanillaBatch, vanillaPayoff, written}
+use Rattle.qrh.specs.Conversion.{conversion}
 use Rattle.vix_value.specs.declared.Factors.{Factors}
 use Rattle.vix_value.specs.Call.{vixInputs, vixCall}
 use Rattle.figures.specs.Given.{bits, decimal, weights, discounts, params, calm, oneStep}
@@ -66,7 +68,9 @@ stepped draw =
 -- a call at 100 over two paths of one step
 abbrev pub priced : List Float → Figure
 priced draws =
-    let a = vanillaAnswer (vanillaCall (callAt100 oneStep false draws) (lent 2)) in
+    let i = callAt100 oneStep false draws in
+    let asked = firstNo (vanillaQuestions i (length (lent 2))) in
+    let a = written (pricedOnceAsked asked (vanillaBatch i) (vanillaPayoff i)) in
     figure (a .number) (a .place)
     (a .price ∷ a .«price_error» ∷ a .«spot_mean» ∷ a .«spot_error» ∷ [])
     (a .paths ∷ a .«non_positive» ∷ a .steps ∷ [])
@@ -112,19 +116,17 @@ answered =
 
 abbrev pub expected : List Figure
 expected =
-    -- "P1 1 at scale 1: bits 3FB999999999999A (hexadecimal). P2 9007199254740993:
-    -- 9007199254740992. P3 9007199254740995: 9007199254740996. P4 90071992547409930000001 at
-    -- scale 7: 9007199254740994. P5 zero, scale 29: +0.0; one, scale 29: refusal 1."
+    -- P1 to P5: bits 3FB999999999999A; 9007199254740992; 9007199254740996; 9007199254740994; +0.0,
+    -- and refusal 1
     figure 0 noPlace (bits 0x3FB999999999999A ∷ []) []
     ∷ figure 0 noPlace (bits 0x4340000000000000 ∷ []) []
     ∷ figure 0 noPlace (bits 0x4340000000000002 ∷ []) []
     ∷ figure 0 noPlace (bits 0x4340000000000001 ∷ []) []
     ∷ figure 0 noPlace (bits 0 ∷ []) []
     ∷ figure 1 noPlace (bits 0 ∷ []) []
-    -- "P6 root of 2^-1074 is 2^-537."
+    -- P6: 2^-537
     ∷ figure 0 noPlace (bits 0x1E60000000000000 ∷ []) []
-    -- "P7 draw 0.5: spot 150, factor and z 0.25, variance 4.0625. P8 draw -1: spot 0, z -0.5,
-    -- variance 4.25."
+    -- P7: spot 150, factor and z 0.25, variance 4.0625; P8: spot 0, factor and z -0.5, variance 4.25
     ∷ figure 0 noPlace
     (bits 0x4062C00000000000
     ∷ bits 0x3FD0000000000000
@@ -135,8 +137,8 @@ expected =
     ∷ figure 0 noPlace
     (bits 0 ∷ bits 0xBFE0000000000000 ∷ bits 0xBFE0000000000000 ∷ bits 0x4011000000000000 ∷ [])
     (1 ∷ [])
-    -- "P9 both as two paths, call at 100: price 25, error 25, spot mean 75, error 75,
-    -- one non-positive, 2 steps. P10 second draw infinite: 22, path 2, step 1, spot, 2 steps."
+    -- P9: price 25 and error 25, spot 75 and error 75, 2 paths, one of them non-positive, 2 steps;
+    -- P10: 22 at path 2, step 1, spot, 2 steps
     ∷ figure 0 noPlace
     (bits 0x4039000000000000
     ∷ bits 0x4039000000000000
@@ -145,11 +147,11 @@ expected =
     ∷ [])
     (2 ∷ 1 ∷ 2 ∷ [])
     ∷ figure 22 (2 ∷ 1 ∷ 1 ∷ 2 ∷ []) (bits 0 ∷ bits 0 ∷ bits 0 ∷ bits 0 ∷ []) (0 ∷ 0 ∷ 2 ∷ [])
-    -- "P11 [0 1; 0 0]: one squaring, [1 1; 0 1]."
+    -- P11: [1 1; 0 1], one squaring
     ∷ figure 0 noPlace
     (bits 0x3FF0000000000000 ∷ bits 0x3FF0000000000000 ∷ bits 0 ∷ bits 0x3FF0000000000000 ∷ [])
     (1 ∷ [])
-    -- "P12 a = 0, window 0.25: VIX squared 40000, index 200."
+    -- P12: VIX squared 40000, index 200
     ∷ figure 0 noPlace (bits 0x40E3880000000000 ∷ bits 0x4069000000000000 ∷ []) []
     ∷ []
 
@@ -161,7 +163,7 @@ next e f = cc
 pub figures : answered ≡ expected
 unfolding convert root ofBits round value isNegative isPositive scaleFits
     firstNo each inRange rangeQuestions scaleQuestions stepsThrough tableAfter
-    traceCall traceTables vanillaCall exponentialCall exponentialTable vixCall
+    traceCall traceTables vanillaQuestions pricedOnceAsked startOf scheduleOf exponentialCall exponentialTable vixCall
 figures =
     next refl
     (next refl

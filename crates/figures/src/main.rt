@@ -1,4 +1,4 @@
-// Runs the checked figures of document 01, and compares each with what it should be.
+// Runs the checked figures (rules 19.1 and 19.2), and compares each with what it should be.
 use libc::STDOUT_FILENO;
 
 mod exponential;
