@@ -13,7 +13,7 @@ use Rattle.numeric.proofs.Tables.{length-tabulate, getD-tabulate}
 use Rattle.refusal.specs.declared.Quantity.{Quantity}
 use Rattle.model.specs.declared.Finiteness.the-variants.{NonFinite}
 use Rattle.model.specs.Step.{finiteness}
-use Rattle.model.specs.Schedule.{lastStep, contains, dtAt, sqrtDtAt}
+use Rattle.model.specs.TimeGrid.{lastStep, contains, dtAt, sqrtDtAt}
 use Rattle.model.specs.Inner.Laid.{Laid}
 use Rattle.model.specs.Walk.{Stop, stateAfter, stopWithin}
 use Rattle.model.specs.Inner.Admitted.{Admitted}
@@ -46,25 +46,25 @@ use Rattle.batch.proofs.Reporting.{reported-read, reported-other, repor
 use Rattle.paths.proofs.Stops.{runStopAt, entry-new, entry-run, entry-path}
 
 -- ---- 1
-module _ (b : Batch) (laid : Laid (b .simulation .schedule)) where
+module _ (b : Batch) (laid : Laid (b .simulation .grid)) where
   only :
-      (k g : ℕ) → g < b .simulation .schedule .count → lastStep (b .simulation .schedule) g < k
-      → k ≤ lastStep (b .simulation .schedule) (suc g) → (j : ℕ) → OneTo (b .simulation .schedule .count) j
-      → contains (b .simulation .schedule) j k ≡ true → j ≡ suc g
+      (k g : ℕ) → g < b .simulation .grid .count → lastStep (b .simulation .grid) g < k
+      → k ≤ lastStep (b .simulation .grid) (suc g) → (j : ℕ) → OneTo (b .simulation .grid .count) j
+      → contains (b .simulation .grid) j k ≡ true → j ≡ suc g
   only k g l lo hi zero i e = absurd (omega (arith, i .from))
-  only k g l lo hi (suc j) i e = ap suc (segment-only (b .simulation .schedule) laid g j k l (i .upto) lo hi e)
+  only k g l lo hi (suc j) i e = ap suc (segment-only (b .simulation .grid) laid g j k l (i .upto) lo hi e)
 
-  step-of : (p k : ℕ) → OneTo (b .simulation .schedule .total) k → StepTaken b p k
+  step-of : (p k : ℕ) → OneTo (b .simulation .grid .total) k → StepTaken b p k
   unfolding stateAfter dtAt sqrtDtAt
   step-of p zero h = absurd (omega (arith, h .from))
   step-of p (suc k) h =
-      let r = segment-at (b .simulation .schedule) laid (suc k) (h .from) (h .upto) in
+      let r = segment-at (b .simulation .grid) laid (suc k) (h .from) (h .upto) in
       record {
         segment = suc (r .0);
         is-segment = record { from = omega arith; upto = r .1 };
-        contained = contains-yes (b .simulation .schedule) laid (r .0) (suc k) (r .2) (r .3);
+        contained = contains-yes (b .simulation .grid) laid (r .0) (suc k) (r .2) (r .3);
         only = only (suc k) (r .0) (r .1) (r .2) (r .3);
-        goes = rw (segment-of (b .simulation .schedule) laid (r .0) (suc k) (r .1) (r .2) (r .3));
+        goes = rw (segment-of (b .simulation .grid) laid (r .0) (suc k) (r .1) (r .2) (r .3));
       }
 
 -- ---- 2
@@ -85,7 +85,7 @@ module _ (b : Batch) where
   run-finite : (n : ℕ) → runStop b n ≡ none → FiniteBefore b (suc n)
   unfolding runStop
   run-finite n e r k h l i =
-      stop-finite (walkOf b r) (b .simulation .schedule .total)
+      stop-finite (walkOf b r) (b .simulation .grid .total)
       (path-none r _ (none-at _ n r e h (omega arith))) k (i .from) (i .upto)
 
   finite-run : (n : ℕ) → FiniteBefore b (suc n) → runStop b n ≡ none
@@ -94,7 +94,7 @@ module _ (b : Batch) where
       none-all _ n
       (λ r l m.
       rw
-      (finite-stop (walkOf b r) (b .simulation .schedule .total)
+      (finite-stop (walkOf b r) (b .simulation .grid .total)
       (λ k i j. h r k l (omega arith) (record { from = i; upto = j }))))
 
   -- and where it stops is the first failure
@@ -105,9 +105,9 @@ module _ (b : Batch) where
   run-first n x few e =
       let r = first-at _ n x e in
       let here = path-some (r .0) _ x (r .1 .here) in
-      let stops : StopsAt (walkOf b (x .path)) (b .simulation .schedule .total) (x .stop) =
-      stop-first (walkOf b (x .path)) (b .simulation .schedule .total) (x .stop)
-      (subst (λ (p : ℕ). stopWithin (walkOf b p) (b .simulation .schedule .total) ≡ some (x .stop))
+      let stops : StopsAt (walkOf b (x .path)) (b .simulation .grid .total) (x .stop) =
+      stop-first (walkOf b (x .path)) (b .simulation .grid .total) (x .stop)
+      (subst (λ (p : ℕ). stopWithin (walkOf b p) (b .simulation .grid .total) ≡ some (x .stop))
       (sym (here .0)) (here .1)) in
       record {
         is-path =
@@ -119,7 +119,7 @@ module _ (b : Batch) where
         fails = stops .fails;
         first-step = stops .earlier;
         first-path = λ p k h l i.
-            stop-finite (walkOf b p) (b .simulation .schedule .total)
+            stop-finite (walkOf b p) (b .simulation .grid .total)
             (path-none p _ (r .1 .earlier p h (omega (arith, here .0)))) k (i .from) (i .upto);
       }
 
@@ -129,36 +129,36 @@ module _ (b : Batch) where
 
 -- ---- 3
 module _
-    (b : Batch) (lent : List Float) (one : 1 ≤ b .simulation .schedule .count)
-    (rows : length lent ≡ b .paths * b .simulation .schedule .count)
+    (b : Batch) (lent : List Float) (one : 1 ≤ b .simulation .grid .count)
+    (rows : length lent ≡ b .paths * b .simulation .grid .count)
   where
     -- the entry of row p and column j
     entry-is :
-        (q j : ℕ) → q < b .paths → j < b .simulation .schedule .count
+        (q j : ℕ) → q < b .paths → j < b .simulation .grid .count
         → entry b (tableAfter b lent) (suc q) (suc j)
         ≡ entryAfter b (suc q) (suc j) (entry b lent (suc q) (suc j))
     unfolding tableAfter
     entry-is q j h l =
-        let n = b .simulation .schedule .count in
+        let n = b .simulation .grid .count in
         getD-tabulate (length lent) (q * n + j) _ nan (rw rows (row-below q (b .paths) n j h l))
         ∙ rw (digits-div q l, digits-mod q l)
 
     reaches :
         (q j : ℕ) → runStop b q ≡ none
-        → stopWithin (walkOf b (suc q)) (lastStep (b .simulation .schedule) j) ≡ none → Reaches b (suc q) j
+        → stopWithin (walkOf b (suc q)) (lastStep (b .simulation .grid) j) ≡ none → Reaches b (suc q) j
     reaches q j h l =
         record {
-          steps = stop-finite (walkOf b (suc q)) (lastStep (b .simulation .schedule) j) l;
+          steps = stop-finite (walkOf b (suc q)) (lastStep (b .simulation .grid) j) l;
           paths = run-finite b q h;
         }
 
     kept : (q j : ℕ) (x : Float) → (Reaches b (suc q) j → ⊥) → entryAfter b (suc q) j x ≡ x
     kept q j x h =
-        go (runStop b q) (stopWithin (walkOf b (suc q)) (lastStep (b .simulation .schedule) j)) refl refl
+        go (runStop b q) (stopWithin (walkOf b (suc q)) (lastStep (b .simulation .grid) j)) refl refl
       where
         go :
             (o : Option RunStop) (s : Option Stop) → runStop b q ≡ o
-            → stopWithin (walkOf b (suc q)) (lastStep (b .simulation .schedule) j) ≡ s
+            → stopWithin (walkOf b (suc q)) (lastStep (b .simulation .grid) j) ≡ s
             → entryAfter b (suc q) j x ≡ x
         go none none e f = absurd (h (reaches q j e f))
         go none (some y) e f = entry-path b q j x y e f
@@ -169,7 +169,7 @@ module _
     table-long = length-tabulate (length lent) _
 
     observed :
-        (p j : ℕ) → OneTo (b .paths) p → OneTo (b .simulation .schedule .count) j → Reaches b p j
+        (p j : ℕ) → OneTo (b .paths) p → OneTo (b .simulation .grid .count) j → Reaches b p j
         → entry b (tableAfter b lent) p j ≡ observation b p j
     observed zero j h l r = absurd (omega (arith, h .from))
     observed (suc q) zero h l r = absurd (omega (arith, l .from))
@@ -179,7 +179,7 @@ module _
         (finite-stop (walkOf b (suc q)) _ (r .steps))
 
     untouched :
-        (p j : ℕ) → OneTo (b .paths) p → OneTo (b .simulation .schedule .count) j → (Reaches b p j → ⊥)
+        (p j : ℕ) → OneTo (b .paths) p → OneTo (b .simulation .grid .count) j → (Reaches b p j → ⊥)
         → entry b (tableAfter b lent) p j ≡ entry b lent p j
     untouched zero j h l r = absurd (omega (arith, h .from))
     untouched (suc q) zero h l r = absurd (omega (arith, l .from))
@@ -191,9 +191,9 @@ module _
 
 -- ---- the claim
 module _
-    (b : Batch) (payoff : Payoff) (laid : Laid (b .simulation .schedule))
+    (b : Batch) (payoff : Payoff) (laid : Laid (b .simulation .grid))
     (admitted : Admitted (b .simulation)) (lent : List Float)
-    (rows : length lent ≡ b .paths * b .simulation .schedule .count)
+    (rows : length lent ≡ b .paths * b .simulation .grid .count)
   where
     walks : PlainWalks b
     unfolding stateAfter
@@ -240,10 +240,10 @@ module _
 
     -- the last observation of each path, by its column and by its step
     abbrev seen : ℕ → Float
-    seen p = observation b p (b .simulation .schedule .count)
+    seen p = observation b p (b .simulation .grid .count)
 
     abbrev walked : ℕ → Float
-    walked p = b .observe (stateOf b p (b .simulation .schedule .total))
+    walked p = b .observe (stateOf b p (b .simulation .grid .total))
 
     last-step : (p : ℕ) → seen p ≡ walked p
     unfolding observation
@@ -255,11 +255,11 @@ module _
           estimates = estimates;
           paths = b .paths;
           «non_positive» = nonPositivePaths b (b .paths);
-          steps = b .paths * b .simulation .schedule .total;
+          steps = b .paths * b .simulation .grid .total;
         }
 
     abbrev refused : Refusal → Priced
-    refused = refusedAfter (b .paths * b .simulation .schedule .total)
+    refused = refusedAfter (b .paths * b .simulation .grid .total)
 
     -- a batch that goes through
     done : runStop b (b .paths) ≡ none → Claimed (pricedAt b payoff none)
@@ -299,12 +299,12 @@ module _
     -- a batch that went through has written its last column
     last-observed :
         runStop b (b .paths) ≡ none
-        → SameUpTo (lastObservation (tableAfter b lent) (b .simulation .schedule .count)) seen
+        → SameUpTo (lastObservation (tableAfter b lent) (b .simulation .grid .count)) seen
         (b .paths)
     unfolding observation
     last-observed e p from upto =
         let is-path : OneTo (b .paths) p = record { from = from; upto = upto } in
-        let count = b .simulation .schedule .count in
+        let count = b .simulation .grid .count in
         let column : OneTo count count = record { from = laid .some; upto = omega arith } in
         let finite = run-finite b (b .paths) e in
         observed b lent (laid .some) rows p count is-path column
@@ -323,9 +323,9 @@ run-long {b} {payoff} {lent} h = ap length (h .table) ∙ length-tabulate (lengt
 
 -- ---- what is made of the run and of the last column is what is made of the plain walks
 module _
-    (handed : Handed) (draws : List Float) (payoff : Payoff) (laid : Laid (handed .simulation .schedule))
+    (handed : Handed) (draws : List Float) (payoff : Payoff) (laid : Laid (handed .simulation .grid))
     (admitted : Admitted (simulationInUse (handed .simulation))) (lent : List Float)
-    (rows : length lent ≡ handed .paths * handed .simulation .schedule .count)
+    (rows : length lent ≡ handed .paths * handed .simulation .grid .count)
   where
     abbrev batch : Batch
     batch = batchOf handed draws
@@ -344,7 +344,7 @@ module _
         go none e =
             ap
             (λ (q : List Question).
-            onceAsked (firstNo q) (refusedAfter (batch .paths * batch .simulation .schedule .total))
+            onceAsked (firstNo q) (refusedAfter (batch .paths * batch .simulation .grid .total))
             (reportedOf (walkedOf batch payoff) (batch .paths)))
             (questions-same (batch .observed) _ _ (batch .paths)
             (last-observed batch payoff (laid-in-use _ laid) admitted lent rows e))

@@ -16,7 +16,7 @@ use Rattle.refusal.specs.declared.Refusal.the-variants.{Plain}
 use Rattle.refusal.specs.Questions.{Question, asked, firstNo}
 use Rattle.refusal.specs.Inner.Asking.{further}
 use Rattle.refusal.proofs.Laws.{in-turn, passed-head, passed-tail, passed-first, passed-then}
-use Rattle.model.specs.declared.Schedule.{Schedule}
+use Rattle.model.specs.declared.TimeGrid.{TimeGrid}
 use Rattle.walks.specs.declared.Batch.{Batch as Handed}
 use Rattle.walks.specs.Batch.{drawsNeeded}
 use Rattle.paths.specs.Inner.Handed.{Prepared}
@@ -50,7 +50,7 @@ module _ (mirrored : Bool) (paths : ℕ) (pass : pathsPass mirrored paths ≡ tr
   paths-even = even mirrored paths (both .1)
 
 -- ---- 19 and 20
-module _ (sched : Schedule) (mirrored : Bool) (paths drawn : ℕ) where
+module _ (sched : TimeGrid) (mirrored : Bool) (paths drawn : ℕ) where
   abbrev enough : ℕ → Question
   enough needed = asked 20 (eqb drawn needed)
 
@@ -86,21 +86,21 @@ module _ (sched : Schedule) (mirrored : Bool) (paths drawn : ℕ) where
 pub prepared :
     (b : Handed) (draws lent : List Float) → Ready b
     → firstNo
-    (batchQuestions (b .simulation .schedule) (b .mirrored) (b .paths) (length draws) (length lent))
+    (batchQuestions (b .simulation .grid) (b .mirrored) (b .paths) (length draws) (length lent))
     ≡ Passed
     → Prepared b draws lent
 prepared b draws lent ready passed =
-    let schedule = b .simulation .schedule in
-    let before = pathQuestions schedule (b .mirrored) (b .paths) (length draws) in
-    let rows = tableQuestions schedule (b .paths) (length lent) in
+    let grid = b .simulation .grid in
+    let before = pathQuestions grid (b .mirrored) (b .paths) (length draws) in
+    let rows = tableQuestions grid (b .paths) (length lent) in
     let first = passed-first before rows passed in
-    let pass = paths-passed schedule (b .mirrored) (b .paths) (length draws) first in
+    let pass = paths-passed grid (b .mirrored) (b .paths) (length draws) first in
     record {
       admitted = ready .admitted;
       form = ready .form;
       laid = ready .laid;
       most = paths-most (b .mirrored) (b .paths) pass;
       pairs = paths-even (b .mirrored) (b .paths) pass;
-      drawn = draws-passed schedule (b .mirrored) (b .paths) (length draws) first;
-      rows = eqb-true _ _ (passed-head (asked 21 (eqb (length lent) (b .paths * schedule .count))) [] (passed-then before rows passed));
+      drawn = draws-passed grid (b .mirrored) (b .paths) (length draws) first;
+      rows = eqb-true _ _ (passed-head (asked 21 (eqb (length lent) (b .paths * grid .count))) [] (passed-then before rows passed));
     }

@@ -1,4 +1,5 @@
--- What 23 and 24 come to for one path, by the tests that the code makes of its last VIX squared. Assumes nothing.
+-- What 23 and 24 come to for one path, by the tests that the code makes of its last VIX squared.
+-- Assumes nothing.
 use mathlib.Core.Path.{_≡_, sym}
 use mathlib.Core.Bool.{true, false}
 use Prim.Native.Nat.{ℕ, suc, _+_}

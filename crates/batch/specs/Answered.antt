@@ -1,4 +1,5 @@
--- What a batch call answers and leaves, by the outcome of its questions before 22. Definitions only.
+-- What a batch call answers and leaves, by the outcome of its questions before 22. Definitions
+-- only.
 use mathlib.Core.Path.{_≡_}
 use mathlib.Core.List.{List}
 use lib.Ieee.{Float}

@@ -17,7 +17,7 @@ use Rattle.refusal.specs.Refusal.{quantityNumber, numberOf, placeOf, noPlace}
 use Rattle.model.specs.declared.Finiteness.the-variants.{Finite, NonFinite}
 use Rattle.model.specs.declared.State.{State}
 use Rattle.model.specs.Step.{step, finiteness}
-use Rattle.model.specs.Schedule.{lastStep, contains}
+use Rattle.model.specs.TimeGrid.{lastStep, contains}
 use Rattle.model.specs.Walk.{stateAfter, Sound}
 use Rattle.walks.specs.declared.Observed.{Observed}
 use Rattle.walks.specs.declared.Observed.the-variants.{Spot, VixSquared}
@@ -93,46 +93,49 @@ FiniteAt b p k = finiteness (stateOf b p k) ≡ Finite
 -- sqrt_dt of the only segment that contains it
 pub record StepTaken (b : Batch) (p k : ℕ) : Type 0 where
   pub segment : ℕ
-  pub is-segment : OneTo (b .simulation .schedule .count) segment
-  pub contained : contains (b .simulation .schedule) segment k ≡ true
+  pub is-segment : OneTo (b .simulation .grid .count) segment
+  pub contained : contains (b .simulation .grid) segment k ≡ true
   pub only :
-      (j : ℕ) → OneTo (b .simulation .schedule .count) j → contains (b .simulation .schedule) j k ≡ true → j ≡ segment
+      (j : ℕ) → OneTo (b .simulation .grid .count) j → contains (b .simulation .grid) j k ≡ true
+      → j ≡ segment
   pub goes :
       stateOf b p k
-      ≡ step (b .simulation .kernel) (b .simulation .raw) (stateOf b p (pred k)) (b .draw p k)
-      (getD (b .simulation .schedule .dt) (pred segment) nan)
-      (getD (b .simulation .schedule .«sqrt_dt») (pred segment) nan)
+      ≡ step (b .simulation .kernel) (b .simulation .params) (stateOf b p (pred k)) (b .draw p k)
+      (getD (b .simulation .grid .dt) (pred segment) nan)
+      (getD (b .simulation .grid .«sqrt_dt») (pred segment) nan)
 
 -- Rules 18.5 and 18.6: what the states are that the rest of the claim speaks of
 pub record PlainWalks (b : Batch) : Type 0 where
   -- no path starts where another ended
   pub starts : (p : ℕ) → stateOf b p 0 ≡ b .simulation .start
   -- no step is taken again in the next segment, or with its dt
-  pub steps : (p k : ℕ) → OneTo (b .paths) p → OneTo (b .simulation .schedule .total) k → StepTaken b p k
+  pub steps :
+      (p k : ℕ) → OneTo (b .paths) p → OneTo (b .simulation .grid .total) k → StepTaken b p k
   -- of every state, the start included and only the one that a path stops with left out: none goes
   -- on from a factor that is not finite, or from a variance below c
   pub sound :
-      (p k : ℕ) → OneTo (b .paths) p → k ≤ b .simulation .schedule .total
+      (p k : ℕ) → OneTo (b .paths) p → k ≤ b .simulation .grid .total
       → ((j : ℕ) → 1 ≤ j → j ≤ k → FiniteAt b p j) → Sound (b .simulation) (stateOf b p k)
 
 -- ---- the stop
 
--- Rule 18.7: some step of the plain walk on some path gives a spot, z or variance that is not finite
+-- Rule 18.7: some step of the plain walk on some path gives a spot, z or variance that is not
+-- finite
 pub record SomeStepFails (b : Batch) : Type 0 where
   pub path : ℕ
   pub is-path : OneTo (b .paths) path
   pub step : ℕ
-  pub is-step : OneTo (b .simulation .schedule .total) step
+  pub is-step : OneTo (b .simulation .grid .total) step
   pub fails : FiniteAt b path step → ⊥
 
 -- each step of the paths before p is finite
 abbrev pub FiniteBefore : Batch → ℕ → Type 0
-FiniteBefore b p = (r k : ℕ) → 1 ≤ r → r < p → OneTo (b .simulation .schedule .total) k → FiniteAt b r k
+FiniteBefore b p = (r k : ℕ) → 1 ≤ r → r < p → OneTo (b .simulation .grid .total) k → FiniteAt b r k
 
 -- Rule 18.7: the first such path p, its first such step k of N and the first of the three
 pub record FirstFailure (b : Batch) (p k : ℕ) (q : Quantity) : Type 0 where
   pub is-path : OneTo (b .paths) p
-  pub is-step : OneTo (b .simulation .schedule .total) k
+  pub is-step : OneTo (b .simulation .grid .total) k
   pub fails : finiteness (stateOf b p k) ≡ NonFinite q
   pub first-step : (j : ℕ) → 1 ≤ j → j < k → FiniteAt b p j
   pub first-path : FiniteBefore b p
@@ -143,7 +146,7 @@ pub record NamesFirst (b : Batch) (answer : BatchAnswer) : Type 0 where
   pub step : ℕ
   pub quantity : Quantity
   pub first : FirstFailure b path step quantity
-  pub taken : answer .steps ≡ pred path * b .simulation .schedule .total + step
+  pub taken : answer .steps ≡ pred path * b .simulation .grid .total + step
   pub named : answer .place ≡ path ∷ step ∷ quantityNumber quantity ∷ answer .steps ∷ []
   pub no-doubles : answer .doubles ≡ noDoubles
   pub no-counts : answer .counts ≡ countsOf (b .observed) 0 0
@@ -155,7 +158,7 @@ pub record NamesFirst (b : Batch) (answer : BatchAnswer) : Type 0 where
 unfoldable pub reportOf : Batch → Payoff → BatchAnswer
 unfolding stateAfter reported nonPositivePaths
 reportOf b payoff =
-    let total = b .simulation .schedule .total in
+    let total = b .simulation .grid .total in
     let steps = b .paths * total in
     reported (b .observed) payoff (λ p. b .observe (stateOf b p total)) (b .paths)
     (refusedAnswer (b .observed) steps)
@@ -170,26 +173,26 @@ reportOf b payoff =
 
 -- ---- the observation table
 
--- Rule 18.9: path p, no path before it having stopped, reaches the end of segment j with finite spot,
--- z and variance
+-- Rule 18.9: path p, no path before it having stopped, reaches the end of segment j with finite
+-- spot, z and variance
 pub record Reaches (b : Batch) (p j : ℕ) : Type 0 where
-  pub steps : (k : ℕ) → 1 ≤ k → k ≤ lastStep (b .simulation .schedule) j → FiniteAt b p k
+  pub steps : (k : ℕ) → 1 ≤ k → k ≤ lastStep (b .simulation .grid) j → FiniteAt b p k
   pub paths : FiniteBefore b p
 
 -- Rule 18.9: a row a path, a column a segment
 abbrev pub entry : Batch → List Float → ℕ → ℕ → Float
-entry b table p j = getD table (pred p * b .simulation .schedule .count + pred j) nan
+entry b table p j = getD table (pred p * b .simulation .grid .count + pred j) nan
 
 pub record Written (b : Batch) (lent after : List Float) : Type 0 where
   pub long : length after ≡ length lent
   -- Excludes a core that writes no observation, and one that works the first step and repeats that
   -- state.
   pub observed :
-      (p j : ℕ) → OneTo (b .paths) p → OneTo (b .simulation .schedule .count) j → Reaches b p j
-      → entry b after p j ≡ b .observe (stateOf b p (lastStep (b .simulation .schedule) j))
+      (p j : ℕ) → OneTo (b .paths) p → OneTo (b .simulation .grid .count) j → Reaches b p j
+      → entry b after p j ≡ b .observe (stateOf b p (lastStep (b .simulation .grid) j))
   -- the rest of the table; excludes a core that writes at the stop
   pub untouched :
-      (p j : ℕ) → OneTo (b .paths) p → OneTo (b .simulation .schedule .count) j → (Reaches b p j → ⊥)
+      (p j : ℕ) → OneTo (b .paths) p → OneTo (b .simulation .grid .count) j → (Reaches b p j → ⊥)
       → entry b after p j ≡ entry b lent p j
 
 -- ---- the claim

@@ -7,7 +7,7 @@ use lib.Dec.{eqb, leb}
 use Rattle.decimal.specs.declared.Decimal.{Decimal}
 use Rattle.decimal.specs.Decimal.{isNegative, value}
 use Rattle.refusal.specs.Questions.{Question, asked}
-use Rattle.model.specs.declared.Schedule.{Schedule}
+use Rattle.model.specs.declared.TimeGrid.{TimeGrid}
 use Rattle.model.specs.Questions.{scaleQuestion}
 use Rattle.walks.specs.Batch.{drawsNeeded}
 use Rattle.estimates.specs.declared.Style.{Style}
@@ -32,18 +32,18 @@ unfoldable pub pathsPass : Bool → ℕ → Bool
 pathsPass mirrored paths = leb 2 paths && leb paths 65536 && (not mirrored || eqb (paths % 2) 0)
 
 -- Rule 14.10: 19, and 20, exactly the draws needed
-unfoldable pub pathQuestions : Schedule → Bool → ℕ → ℕ → List Question
+unfoldable pub pathQuestions : TimeGrid → Bool → ℕ → ℕ → List Question
 unfolding pathsPass
-pathQuestions schedule mirrored paths drawn =
+pathQuestions grid mirrored paths drawn =
     asked 19 (pathsPass mirrored paths)
-    ∷ asked 20 (eqb drawn (drawsNeeded mirrored paths (schedule .total)))
+    ∷ asked 20 (eqb drawn (drawsNeeded mirrored paths (grid .total)))
     ∷ []
 
 -- Rule 14.10: 21, a row a path and a column a segment
-abbrev pub tableQuestions : Schedule → ℕ → ℕ → List Question
-tableQuestions schedule paths lent = asked 21 (eqb lent (paths * schedule .count)) ∷ []
+abbrev pub tableQuestions : TimeGrid → ℕ → ℕ → List Question
+tableQuestions grid paths lent = asked 21 (eqb lent (paths * grid .count)) ∷ []
 
 -- Rule 14.10: with so many draws and a table of so many doubles lent
-abbrev pub batchQuestions : Schedule → Bool → ℕ → ℕ → ℕ → List Question
-batchQuestions schedule mirrored paths drawn lent =
-    pathQuestions schedule mirrored paths drawn ++ tableQuestions schedule paths lent
+abbrev pub batchQuestions : TimeGrid → Bool → ℕ → ℕ → ℕ → List Question
+batchQuestions grid mirrored paths drawn lent =
+    pathQuestions grid mirrored paths drawn ++ tableQuestions grid paths lent

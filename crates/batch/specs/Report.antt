@@ -50,9 +50,9 @@ refusedAfter steps refusal = Refused refusal steps
 abbrev pub pricedAt : Batch → Payoff → Option RunStop → Priced
 pricedAt b payoff (some s) = Refused (refusalAt b s) (stepsAt b s)
 pricedAt b payoff none =
-    let schedule = b .simulation .schedule in
-    let steps = b .paths * schedule .total in
-    reported (b .observed) payoff (λ p. observation b p (schedule .count)) (b .paths)
+    let grid = b .simulation .grid in
+    let steps = b .paths * grid .total in
+    reported (b .observed) payoff (λ p. observation b p (grid .count)) (b .paths)
     (refusedAfter steps)
     (λ estimates.
     Price

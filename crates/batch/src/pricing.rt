@@ -82,16 +82,16 @@ fn reported(walked: Walked, paths: u64) -> Priced
 
 // Questions 23 and 24 where the VIX squared is observed, then the estimates.
 fn priced_from(walked: Walked, batch: Batch, observations: &[f64]) -> Priced
-    requires { ⌜ 1 ≤ batch .simulation .schedule .count ⌝ }
+    requires { ⌜ 1 ≤ batch .simulation .grid .count ⌝ }
     requires { ⌜ length (now observations)
-        ≡ batch .paths * batch .simulation .schedule .count ⌝ }
+        ≡ batch .paths * batch .simulation .grid .count ⌝ }
     ensures { λ r. ⌜ r ≡ pricedFrom walked batch (now (observations .entry)) ⌝ }
 {
     let observation = batch.observation;
     let observed = observation.observed;
     let simulation = batch.simulation;
-    let schedule = simulation.schedule;
-    let asked = check_last(observed, observations, batch.paths, schedule.count);
+    let grid = simulation.grid;
+    let asked = check_last(observed, observations, batch.paths, grid.count);
     if let Outcome::Refused(refusal) = asked {
         return Priced::Refused {
             refusal: refusal,
@@ -103,9 +103,9 @@ fn priced_from(walked: Walked, batch: Batch, observations: &[f64]) -> Priced
 
 // 22 where a step is not finite, and else what is made of the last column.
 fn priced_after(ran: Run, batch: Batch, observations: &[f64]) -> Priced
-    requires { ⌜ 1 ≤ batch .simulation .schedule .count ⌝ }
+    requires { ⌜ 1 ≤ batch .simulation .grid .count ⌝ }
     requires { ⌜ length (now observations)
-        ≡ batch .paths * batch .simulation .schedule .count ⌝ }
+        ≡ batch .paths * batch .simulation .grid .count ⌝ }
     ensures { λ r. ⌜ r ≡ pricedAfter ran batch (now (observations .entry)) ⌝ }
 {
     match ran {

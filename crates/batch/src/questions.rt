@@ -1,5 +1,5 @@
-// What is asked of a batch before 22, past its model: 18 and 1 of the strike, 19 of the paths, 20 of
-// the draws and 21 of the lent table.
+// What is asked of a batch before 22, past its model: 18 and 1 of the strike, 19 of the paths, 20
+// of the draws and 21 of the lent table.
 ghost use mathlib.Core.Path.{_≡_};
 ghost use Prim.Native.Nat.{_≤_};
 ghost use Rattle.refusal.specs.Questions.{firstNo};
@@ -10,7 +10,7 @@ ghost use Rattle.batch.specs.Questions.{pathQuestions, batchQuestions};
 use decimal::Decimal;
 use estimates::Payoff;
 use estimates::Style;
-use model::Schedule;
+use model::TimeGrid;
 use refusal::Outcome;
 use refusal::Refusal;
 use walks::Batch;
@@ -60,29 +60,29 @@ fn draws_needed(mirrored: bool, paths: usize, total: usize) -> usize
 }
 
 // Questions 19 and 20. No product is taken before the paths are known to be few, so none wraps.
-fn path_questions(schedule: Schedule, mirrored: bool, paths: usize, drawn: usize) -> Outcome
-    requires { ⌜ schedule .total ≤ 4096 ⌝ }
-    ensures { λ r. ⌜ r ≡ firstNo (pathQuestions schedule mirrored paths drawn) ⌝ }
+fn path_questions(grid: TimeGrid, mirrored: bool, paths: usize, drawn: usize) -> Outcome
+    requires { ⌜ grid .total ≤ 4096 ⌝ }
+    ensures { λ r. ⌜ r ≡ firstNo (pathQuestions grid mirrored paths drawn) ⌝ }
 {
     if !paths_pass(mirrored, paths) {
         return Outcome::Refused(Refusal::Plain(19));
     }
-    let needed = draws_needed(mirrored, paths, schedule.total);
+    let needed = draws_needed(mirrored, paths, grid.total);
     refusal::ask(Outcome::Passed, Refusal::Plain(20), drawn == needed)
 }
 
 // Questions 19 to 21, with so many draws and a table of so many doubles lent.
 pub fn batch_questions(batch: Batch, drawn: usize, lent: usize) -> Outcome
-    requires { ⌜ Laid (batch .simulation .schedule) ⌝ }
-    ensures { λ r. ⌜ r ≡ firstNo (batchQuestions (batch .simulation .schedule)
+    requires { ⌜ Laid (batch .simulation .grid) ⌝ }
+    ensures { λ r. ⌜ r ≡ firstNo (batchQuestions (batch .simulation .grid)
         (batch .mirrored) (batch .paths) drawn lent) ⌝ }
 {
     let simulation = batch.simulation;
-    let schedule = simulation.schedule;
-    let asked = path_questions(schedule, batch.mirrored, batch.paths, drawn);
+    let grid = simulation.grid;
+    let asked = path_questions(grid, batch.mirrored, batch.paths, drawn);
     if let Outcome::Refused(refusal) = asked {
         return Outcome::Refused(refusal);
     }
-    let rows = batch.paths * schedule.count;
+    let rows = batch.paths * grid.count;
     refusal::ask(Outcome::Passed, Refusal::Plain(21), lent == rows)
 }

@@ -7,7 +7,7 @@ use Rattle.numeric.specs.Root.{root}
 use Rattle.estimates.specs.declared.Payoff.{Payoff}
 use Rattle.estimates.specs.declared.Moments.{Moments}
 use Rattle.estimates.specs.declared.Tally.{Tally}
-use Rattle.estimates.specs.declared.Estimate.{Estimate}
+use Rattle.estimates.specs.declared.MeanAndError.{MeanAndError}
 use Rattle.estimates.specs.declared.Estimates.{Estimates}
 use Rattle.estimates.specs.Payoff.{payoffOf}
 
@@ -47,7 +47,7 @@ tallyOf payoff underlying (suc n) =
     withPath payoff (tallyOf payoff underlying n) (underlying (suc n))
 
 -- Rule 10.3: the mean and its standard error
-unfoldable pub estimateOf : Moments → Estimate
+unfoldable pub estimateOf : Moments → MeanAndError
 unfolding sub div root
 estimateOf m =
     let variance = over (m .«squared_deviations») (minus (m .count) one) in

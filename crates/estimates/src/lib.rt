@@ -27,13 +27,13 @@ pub struct Tally {
 }
 
 // A mean and its standard error.
-pub struct Estimate {
+pub struct MeanAndError {
     pub mean: f64,
     pub error: f64,
 }
 
 // The estimates of a batch: of the payoff, and of the terminal spot or the index.
 pub struct Estimates {
-    pub payoff: Estimate,
-    pub underlying: Estimate,
+    pub payoff: MeanAndError,
+    pub underlying: MeanAndError,
 }

@@ -2,8 +2,8 @@
 ghost use mathlib.Core.Path.{_≡_};
 ghost use Rattle.estimates.specs.Moments.{noMoments, withValue, estimateOf, notFinite};
 ghost use Rattle.estimates.specs.Moments.{noPaths, withPath, estimatesFrom};
-use crate::Estimate;
 use crate::Estimates;
+use crate::MeanAndError;
 use crate::Moments;
 use crate::Payoff;
 use crate::Tally;
@@ -45,11 +45,11 @@ impl Moments {
     }
 
     // The mean and its standard error.
-    pub fn estimate(self) -> Estimate
+    pub fn estimate(self) -> MeanAndError
         ensures { λ r. ⌜ r ≡ estimateOf self ⌝ }
     {
         let variance_of_mean = self.squared_deviations / (self.count - 1.0) / self.count;
-        Estimate {
+        MeanAndError {
             mean: self.mean,
             error: numeric::sqrt(variance_of_mean),
         }

@@ -17,10 +17,10 @@ use Rattle.refusal.specs.Refusal.{noPlace}
 use Rattle.model.specs.declared.Finiteness.the-variants.{NonFinite}
 use Rattle.model.specs.Kernel.{inRange}
 use Rattle.model.specs.Parameters.{startOf}
-use Rattle.model.specs.Schedule.{scheduleOf, stepsThrough}
+use Rattle.model.specs.TimeGrid.{gridOf, stepsThrough}
 use Rattle.model.specs.Step.{finiteness}
 use Rattle.model.specs.Walk.{stateAfter}
-use Rattle.doors.specs.Questions.{rangeQuestions, scaleQuestions}
+use Rattle.admission.specs.Questions.{rangeQuestions, scaleQuestions}
 use Rattle.batch.specs.Claim.{BatchAnswer, OneTo, stateOf, FiniteAt, SomeStepFails, FirstFailure}
 use Rattle.batch.specs.Claim.{Reaches, reportOf}
 use Rattle.vanilla.specs.Call.{VanillaInputs, vanillaQuestions, vanillaBatch, vanillaPayoff}
@@ -135,14 +135,14 @@ priceOfNine =
     (2 ∷ 1 ∷ [])
 
 pub nine-report : report nine ≡ priceOfNine
-unfolding reportOf startOf scheduleOf value round ofBits
+unfolding reportOf startOf gridOf value round ofBits
 nine-report = refl
 
 -- both spots are 150
 pub level-report :
     report level
     ≡ pricedAt (value (decimal 50 0)) plusZero (value (decimal 150 0)) plusZero (2 ∷ 0 ∷ [])
-unfolding reportOf startOf scheduleOf value round ofBits
+unfolding reportOf startOf gridOf value round ofBits
 level-report = refl
 
 -- ---- which steps are finite
@@ -168,22 +168,22 @@ both-finite i h l p k is-path is-step =
     (two (λ p. FiniteAt (vanillaBatch i) p 1) h l p is-path) k is-step
 
 pub nine-passes : SomeStepFails (vanillaBatch nine) → ⊥
-unfolding startOf scheduleOf stateAfter finiteness value round ofBits
+unfolding startOf gridOf stateAfter finiteness value round ofBits
 nine-passes s =
     s .fails (both-finite nine refl refl (s .path) (s .step) (s .is-path) (s .is-step))
 
 pub level-passes : SomeStepFails (vanillaBatch level) → ⊥
-unfolding startOf scheduleOf stateAfter finiteness value round ofBits
+unfolding startOf gridOf stateAfter finiteness value round ofBits
 level-passes s =
     s .fails (both-finite level refl refl (s .path) (s .step) (s .is-path) (s .is-step))
 
 -- P10 stops on path 2, at step 1, with the spot
 pub ten-first : FiniteAt (vanillaBatch ten) 1 1
-unfolding startOf scheduleOf stateAfter finiteness value round ofBits
+unfolding startOf gridOf stateAfter finiteness value round ofBits
 ten-first = refl
 
 pub ten-fails : finiteness (stateOf (vanillaBatch ten) 2 1) ≡ NonFinite quantity.Spot
-unfolding startOf scheduleOf stateAfter finiteness value round ofBits
+unfolding startOf gridOf stateAfter finiteness value round ofBits
 ten-fails = refl
 
 pub record StopOfTen (p k : ℕ) (q : Quantity) : Type 0 where
@@ -202,13 +202,13 @@ on-2 : (q : Quantity) → Stops 2 1 q
 on-2 q fails = let spot = ten-fails in record { path = refl; step = refl; quantity = cc }
 
 pub ten-stops : (p k : ℕ) (q : Quantity) → FirstFailure (vanillaBatch ten) p k q → StopOfTen p k q
-unfolding startOf scheduleOf
+unfolding startOf gridOf
 ten-stops p k q stop =
     one (λ k. Stops p k q) (two (λ p. Stops p 1 q) (not-on-1 q) (on-2 q) p (stop .is-path)) k
     (stop .is-step) (stop .fails)
 
 pub ten-refused : SomeStepFails (vanillaBatch ten)
-unfolding startOf scheduleOf
+unfolding startOf gridOf
 ten-refused =
     record {
       path = 2;
@@ -223,7 +223,7 @@ ten-refused =
 
 -- so it does not reach the end of its segment
 pub ten-ends : Reaches (vanillaBatch ten) 2 1 → ⊥
-unfolding startOf scheduleOf stateAfter finiteness value round ofBits
+unfolding startOf gridOf stateAfter finiteness value round ofBits
 ten-ends reaches =
     let finite = reaches .steps 1 (omega arith) (omega arith) in
     let fails = ten-fails in
@@ -232,7 +232,7 @@ ten-ends reaches =
 
 -- path 1 reaches the end of its segment
 pub nine-reaches : Reaches (vanillaBatch nine) 1 1
-unfolding startOf scheduleOf stateAfter finiteness value round ofBits
+unfolding startOf gridOf stateAfter finiteness value round ofBits
 nine-reaches =
     record {
       steps = λ k from upto.
@@ -242,7 +242,7 @@ nine-reaches =
     }
 
 pub twice-reaches : Reaches (vanillaBatch twice) 1 1
-unfolding startOf scheduleOf stateAfter finiteness value round ofBits
+unfolding startOf gridOf stateAfter finiteness value round ofBits
 twice-reaches =
     record {
       steps = λ k from upto.

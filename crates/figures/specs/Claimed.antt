@@ -13,7 +13,7 @@ use Rattle.model.specs.Inner.Admitted.{Converted, Admitted}
 use Rattle.model.specs.Inner.Laid.{Laid}
 use Rattle.model.specs.Kernel.{inRange}
 use Rattle.model.specs.Parameters.{startOf}
-use Rattle.model.specs.Schedule.{lastStep, scheduleOf}
+use Rattle.model.specs.TimeGrid.{lastStep, gridOf}
 use Rattle.model.specs.Simulation.{simulationOf}
 use Rattle.paths.specs.Run.{tableAfter}
 use Rattle.batch.specs.Report.{pricedRun}
@@ -34,14 +34,14 @@ rising f h zero (suc zero) l m = h
 rising f h zero (suc (suc j)) l m = absurd (omega (arith, m))
 rising f h (suc i) j l m = absurd (omega (arith, l, m))
 
-one-laid : Laid (scheduleOf oneStep)
-unfolding scheduleOf
+one-laid : Laid (gridOf oneStep)
+unfolding gridOf
 one-laid =
     record {
       some = omega arith;
       few = omega arith;
       short = omega arith;
-      rises = rising (lastStep (scheduleOf oneStep)) (omega arith);
+      rises = rising (lastStep (gridOf oneStep)) (omega arith);
       ends = refl;
     }
 
@@ -88,7 +88,7 @@ calm-admitted = admitted (decimal 0 0) refl (record { double = refl; small = ref
 pub nine-claimed :
     BatchClaim (vanillaBatch nine) (vanillaPayoff nine) lent
     (value (decimal 150 0) ∷ plusZero ∷ []) priceOfNine
-unfolding startOf scheduleOf tableAfter pricedRun value round ofBits
+unfolding startOf gridOf tableAfter pricedRun value round ofBits
 nine-claimed =
     batch-claim (vanillaBatch nine) (vanillaPayoff nine) one-laid params-admitted lent refl
 
@@ -98,7 +98,7 @@ pub mirrored-claimed :
     (value (decimal 150 0) ∷ value (decimal 50 0) ∷ [])
     (pricedAt (value (decimal 25 0)) (value (decimal 25 0)) (value (decimal 100 0))
     (value (decimal 50 0)) (2 ∷ 0 ∷ []))
-unfolding startOf scheduleOf tableAfter pricedRun value round ofBits
+unfolding startOf gridOf tableAfter pricedRun value round ofBits
 mirrored-claimed =
     batch-claim (vanillaBatch mirrored) (vanillaPayoff mirrored) one-laid params-admitted lent refl
 
@@ -107,6 +107,6 @@ pub vix-claimed :
     BatchClaim (vixBatch vix) (payoffFor (vix .order .payoff)) lent
     (value (decimal 40000 0) ∷ value (decimal 40000 0) ∷ [])
     (pricedAt (value (decimal 200 0)) plusZero (value (decimal 200 0)) plusZero (2 ∷ []))
-unfolding startOf scheduleOf vixCall tableAfter pricedRun value round ofBits
+unfolding startOf gridOf vixCall tableAfter pricedRun value round ofBits
 vix-claimed =
     batch-claim (vixBatch vix) (payoffFor (vix .order .payoff)) one-laid calm-admitted lent refl

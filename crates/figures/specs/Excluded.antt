@@ -12,7 +12,7 @@ use Rattle.numeric.specs.Double.{plusZero}
 use Rattle.decimal.specs.Decimal.{value}
 use Rattle.refusal.specs.declared.Outcome.the-variants.{Passed}
 use Rattle.model.specs.Parameters.{startOf}
-use Rattle.model.specs.Schedule.{scheduleOf}
+use Rattle.model.specs.TimeGrid.{gridOf}
 use Rattle.model.specs.Walk.{stateAfter}
 use Rattle.batch.specs.Claim.{BatchAnswer, OneTo, stateOf, entry, BatchClaim}
 use Rattle.vanilla.specs.Call.{VanillaInputs, vanillaBatch, vanillaPayoff}
@@ -87,7 +87,7 @@ pub repeats-the-first-state :
     (after : List Float) (answer : BatchAnswer)
     → entry (vanillaBatch twice) after 1 1 ≡ stateOf (vanillaBatch twice) 1 1 .spot
     → Excluded twice after answer
-unfolding startOf scheduleOf stateAfter value round ofBits lt
+unfolding startOf gridOf stateAfter value round ofBits lt
 repeats-the-first-state after answer repeated claim =
     let observed =
     claim twice-admitted .written .observed 1 1 first-of-two first-of-one twice-reaches in
@@ -95,7 +95,7 @@ repeats-the-first-state after answer repeated claim =
 
 -- ---- a core that writes no observation: by `written .observed`
 pub writes-no-observation : (answer : BatchAnswer) → Excluded nine lent answer
-unfolding startOf scheduleOf stateAfter value round ofBits lt
+unfolding startOf gridOf stateAfter value round ofBits lt
 writes-no-observation answer claim =
     apart refl refl
     (claim nine-admitted .written .observed 1 1 first-of-two first-of-one nine-reaches)
@@ -127,7 +127,7 @@ invents-the-total after answer other claim =
 pub invents-the-total-at-a-stop :
     (after : List Float) (answer : BatchAnswer) → answer .number ≡ 22 → (answer .steps ≡ 2 → ⊥)
     → Excluded ten after answer
-unfolding startOf scheduleOf
+unfolding startOf gridOf
 invents-the-total-at-a-stop after answer is-22 other claim =
     let named = claim ten-admitted .names is-22 in
     let stop = ten-stops (named .path) (named .step) (named .quantity) (named .first) in
@@ -143,7 +143,7 @@ goes-past-the-stop after answer other claim = other (claim ten-admitted .exactly
 pub names-another-place :
     (after : List Float) (answer : BatchAnswer) → answer .number ≡ 22
     → (answer .place ≡ 2 ∷ 1 ∷ 1 ∷ answer .steps ∷ [] → ⊥) → Excluded ten after answer
-unfolding startOf scheduleOf
+unfolding startOf gridOf
 names-another-place after answer is-22 other claim =
     let named = claim ten-admitted .names is-22 in
     let stop = ten-stops (named .path) (named .step) (named .quantity) (named .first) in
@@ -153,6 +153,6 @@ names-another-place after answer is-22 other claim =
 pub writes-at-the-stop :
     (after : List Float) (answer : BatchAnswer)
     → (entry (vanillaBatch ten) after 2 1 ≡ plusZero → ⊥) → Excluded ten after answer
-unfolding startOf scheduleOf
+unfolding startOf gridOf
 writes-at-the-stop after answer other claim =
     other (claim ten-admitted .written .untouched 2 1 second-of-two first-of-one ten-ends)

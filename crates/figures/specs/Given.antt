@@ -6,8 +6,8 @@ use Prim.Native.Nat.{ℕ, _/_, _%_, _^_}
 use lib.Ieee.{Float, binary64, ofBits}
 use Rattle.decimal.specs.declared.Decimal.{Decimal}
 use Rattle.model.specs.declared.Kernel.{Kernel}
-use Rattle.model.specs.declared.Params.{Params}
-use Rattle.model.specs.declared.Segments.{Segments}
+use Rattle.model.specs.declared.Model.{Model}
+use Rattle.model.specs.declared.Schedule.{Schedule}
 use Rattle.model.specs.Kernel.{kernelOf}
 use Rattle.model.specs.Simulation.{Given, given}
 use Rattle.vanilla.specs.Call.{VanillaInputs, vanillaInputs}
@@ -36,7 +36,7 @@ abbrev pub kernel : Kernel
 kernel = kernelOf weights discounts
 
 -- the parameters, with this a
-abbrev pub withA : Decimal → Params
+abbrev pub withA : Decimal → Model
 withA a =
     record {
       a = a;
@@ -49,25 +49,25 @@ withA a =
       factors = decimal 0 0 ∷ [];
     }
 
-abbrev pub params : Params
+abbrev pub params : Model
 params = withA (decimal 1 0)
 
 -- with a = 0
-abbrev pub calm : Params
+abbrev pub calm : Model
 calm = withA (decimal 0 0)
 
 -- so many steps of 0.25 years
-abbrev pub steps : ℕ → Segments
+abbrev pub steps : ℕ → Schedule
 steps count = record { count = 1; segments = record { dt = decimal 25 2; steps = count } ∷ [] }
 
-abbrev pub oneStep : Segments
+abbrev pub oneStep : Schedule
 oneStep = steps 1
 
-abbrev pub modelOf : Params → Segments → Given
+abbrev pub modelOf : Model → Schedule → Given
 modelOf p segments = given weights discounts p segments
 
 -- a call at 100 over two paths
-abbrev pub callAt100 : Segments → Bool → List Float → VanillaInputs
+abbrev pub callAt100 : Schedule → Bool → List Float → VanillaInputs
 callAt100 segments mirrored draws =
     vanillaInputs (modelOf params segments)
     (record { put = false; strike = decimal 100 0; mirrored = mirrored; paths = 2 })

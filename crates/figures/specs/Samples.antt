@@ -6,8 +6,8 @@ use Prim.Native.Nat.{ℕ}
 use lib.Ieee.{binary64, ofBits}
 use Rattle.decimal.specs.Decimal.{value}
 use Rattle.model.specs.declared.Segment.{Segment}
-use Rattle.model.specs.declared.Segments.{Segments}
-use Rattle.model.specs.Schedule.{scheduleOf, dtAt}
+use Rattle.model.specs.declared.Schedule.{Schedule}
+use Rattle.model.specs.TimeGrid.{gridOf, dtAt}
 
 -- steps of percent / 100 years
 segment : ℕ → ℕ → Segment
@@ -15,13 +15,13 @@ segment percent steps =
     record { dt = record { low = percent; high = 0; scale = 2; negative = false }; steps = steps }
 
 -- 2 steps of 0.25 and 3 steps of 0.5: step 2 takes 0.25 and step 3 takes 0.5
-twoSegments : Segments
+twoSegments : Schedule
 twoSegments = record { count = 2; segments = segment 25 2 ∷ segment 50 3 ∷ [] }
 
-dt-of-step-2 : dtAt (scheduleOf twoSegments) 2 ≡ ofBits binary64 0x3fd0_0000_0000_0000
-unfolding segment twoSegments scheduleOf dtAt value ofBits
+dt-of-step-2 : dtAt (gridOf twoSegments) 2 ≡ ofBits binary64 0x3fd0_0000_0000_0000
+unfolding segment twoSegments gridOf dtAt value ofBits
 dt-of-step-2 = refl
 
-dt-of-step-3 : dtAt (scheduleOf twoSegments) 3 ≡ ofBits binary64 0x3fe0_0000_0000_0000
-unfolding segment twoSegments scheduleOf dtAt value ofBits
+dt-of-step-3 : dtAt (gridOf twoSegments) 3 ≡ ofBits binary64 0x3fe0_0000_0000_0000
+unfolding segment twoSegments gridOf dtAt value ofBits
 dt-of-step-3 = refl

@@ -1,6 +1,6 @@
 -- Rule 19.1: the figures P1 to P12, as the outer calls answer them, as one list with one theorem.
--- They are proved here and nowhere else. Every double, given or expected, stands by its bits, so that
--- no figure rests on the conversion that it checks.
+-- They are proved here and nowhere else. Every double, given or expected, stands by its bits, so
+-- that no figure rests on the conversion that it checks.
 use mathlib.Core.Path.{_≡_, refl}
 use mathlib.Core.Bool.{false}
 use mathlib.Core.List.{List, [], _∷_}
@@ -12,9 +12,9 @@ use Rattle.decimal.specs.declared.Decimal.{Decimal}
 use Rattle.decimal.specs.Decimal.{value, convert, isNegative, isPositive, scaleFits}
 use Rattle.refusal.specs.Questions.{firstNo, each}
 use Rattle.model.specs.Kernel.{inRange}
-use Rattle.doors.specs.Questions.{rangeQuestions, scaleQuestions}
+use Rattle.admission.specs.Questions.{rangeQuestions, scaleQuestions}
 use Rattle.model.specs.Parameters.{startOf}
-use Rattle.model.specs.Schedule.{scheduleOf, stepsThrough}
+use Rattle.model.specs.TimeGrid.{gridOf, stepsThrough}
 use Rattle.trace.specs.Trace.{tables, tableAfter}
 use Rattle.trace.specs.Call.{traceInputs, traceCall, traceTables}
 use Rattle.exponentiation.specs.Call.{matrixInputs, exponentialCall, exponentialTable}
@@ -126,7 +126,8 @@ expected =
     ∷ figure 1 noPlace (bits 0 ∷ []) []
     -- P6: 2^-537
     ∷ figure 0 noPlace (bits 0x1E60000000000000 ∷ []) []
-    -- P7: spot 150, factor and z 0.25, variance 4.0625; P8: spot 0, factor and z -0.5, variance 4.25
+    -- P7: spot 150, factor and z 0.25, variance 4.0625; P8: spot 0, factor and z -0.5, variance
+    -- 4.25
     ∷ figure 0 noPlace
     (bits 0x4062C00000000000
     ∷ bits 0x3FD0000000000000
@@ -163,7 +164,8 @@ next e f = cc
 pub figures : answered ≡ expected
 unfolding convert root ofBits round value isNegative isPositive scaleFits
     firstNo each inRange rangeQuestions scaleQuestions stepsThrough tableAfter
-    traceCall traceTables vanillaQuestions pricedOnceAsked startOf scheduleOf exponentialCall exponentialTable vixCall
+    traceCall traceTables vanillaQuestions pricedOnceAsked startOf gridOf
+    exponentialCall exponentialTable vixCall
 figures =
     next refl
     (next refl

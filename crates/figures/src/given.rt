@@ -1,9 +1,9 @@
 // The inputs of the figures: n = 1, weight 1, discount 4, a = 1, b = 0, c = 4, lambda = eta = 1,
 // spot 100, factor 0, dt 0.25, but for what a figure says.
 use decimal::Decimal;
-use model::Params;
+use model::Model;
+use model::Schedule;
 use model::Segment;
-use model::Segments;
 
 // digits / 10^scale.
 pub(crate) fn scaled(digits: u64, scale: u8) -> Decimal {
@@ -24,8 +24,8 @@ pub(crate) fn quarter() -> Decimal {
 }
 
 // The parameters with these a, number of factors and value of each.
-pub(crate) fn params(a: u64, factor_count: usize, factor: u64) -> Params {
-    Params {
+pub(crate) fn params(a: u64, factor_count: usize, factor: u64) -> Model {
+    Model {
         a: whole(a),
         b: whole(0),
         c: whole(4),
@@ -38,19 +38,19 @@ pub(crate) fn params(a: u64, factor_count: usize, factor: u64) -> Params {
 }
 
 // One segment of dt 0.25.
-pub(crate) fn segment(steps: u32) -> Segments {
+pub(crate) fn segment(steps: u32) -> Schedule {
     let only = Segment {
         dt: quarter(),
         steps: steps,
     };
-    Segments {
+    Schedule {
         count: 1,
         segments: [only; 64],
     }
 }
 
 // The segments (0.25, 2), (0.5, 3).
-pub(crate) fn two_segments() -> Segments {
+pub(crate) fn two_segments() -> Schedule {
     let mut segments = [Segment {
         dt: quarter(),
         steps: 2,
@@ -59,7 +59,7 @@ pub(crate) fn two_segments() -> Segments {
         dt: scaled(5, 1),
         steps: 3,
     };
-    Segments {
+    Schedule {
         count: 2,
         segments: segments,
     }

@@ -92,8 +92,8 @@ fn number_of(weights: &[f64], discounts: &[f64]) -> u32 {
     answer.number
 }
 
-// Whether so many steps, with 4,096 draws of 0, which leave the spot at 100, are answered by a number
-// with a place, and end at that spot.
+// Whether so many steps, with 4,096 draws of 0, which leave the spot at 100, are answered by a
+// number with a place, and end at that spot.
 fn many_steps(steps: u32, number: u32, segment_at: u64, spot: f64) -> bool {
     let mut spots = [0.0; 4097];
     let mut variances = [0.0; 4097];

@@ -11,7 +11,7 @@ use lib.Ieee.{Float, nan}
 use Rattle.numeric.specs.Double.{times, plusZero}
 use Rattle.numeric.proofs.Tables.{length-tabulate}
 use Rattle.model.specs.declared.Kernel.{Kernel}
-use Rattle.model.specs.declared.RawParams.{RawParams}
+use Rattle.model.specs.declared.Params.{Params}
 use Rattle.model.specs.Inner.InUse.{kernelInUse}
 use Rattle.matrix.specs.Matrix.{scaled}
 use Rattle.matrix.proofs.Lists.{length-scaled}
@@ -88,7 +88,7 @@ module _ (window : Float) (row : List Float) where
 
 -- ---- row after row
 
-module _ (k : Kernel) (p : RawParams) (window : Float) where
+module _ (k : Kernel) (p : Params) (window : Float) where
   abbrev pub mean : ℕ → List Float
   mean i = scaled window (meanRow (kernelInUse k) p i)
 

@@ -4,14 +4,14 @@ use lib.ListN.{replicate}
 use lib.Ieee.{Float}
 use Rattle.numeric.specs.Double.{plusZero}
 use Rattle.model.specs.declared.Kernel.{Kernel}
-use Rattle.model.specs.declared.RawParams.{RawParams}
+use Rattle.model.specs.declared.Params.{Params}
 use Rattle.matrix.specs.Matrix.{scaled}
 use Rattle.generator_rows.specs.State.{inStateOrder, pairsBefore, dimension}
 use Rattle.generator_rows.specs.Rows.{meanRow, pairRow, varianceRow}
 
 -- Rule 11.7: the rows in the state's order, the integral's being E[V] and the constant's zero; then
 -- each entry is multiplied by the window.
-unfoldable pub generator : Kernel → RawParams → Float → List Float
+unfoldable pub generator : Kernel → Params → Float → List Float
 unfolding scaled inStateOrder meanRow pairRow varianceRow pairsBefore
 generator k p window =
     scaled window

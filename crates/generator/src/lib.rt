@@ -11,7 +11,7 @@ ghost use Rattle.generator_rows.specs.Rows.{varianceRow, meanRow, pairRow};
 ghost use Rattle.generator.specs.Generator.{generator};
 use generator_rows::state;
 use model::Kernel;
-use model::RawParams;
+use model::Params;
 
 fn store_row(row: [f64; 67], dim: usize, at: usize, window: f64, work: &mut [f64])
     requires { ⌜ (dim ≤ 67) × (at + dim ≤ length (now work)) ⌝ }
@@ -25,7 +25,7 @@ fn store_row(row: [f64; 67], dim: usize, at: usize, window: f64, work: &mut [f64
     }
 }
 
-fn store_means(k: Kernel, p: RawParams, window: f64, dim: usize, work: &mut [f64])
+fn store_means(k: Kernel, p: Params, window: f64, dim: usize, work: &mut [f64])
     requires { ⌜ (k .n ≤ 10) × (dim ≡ dimension (k .n)) × (dim * dim ≤ length (now work)) ⌝ }
     ensures { λ _. ⌜ Appended 0 (joined (λ i. scaled window (meanRow (kernelInUse k) p i)) (k .n))
         (now (work .entry)) (now (work .exit)) ⌝ }
@@ -42,7 +42,7 @@ fn store_means(k: Kernel, p: RawParams, window: f64, dim: usize, work: &mut [f64
 // The rows of the pairs (i, i), (i, i + 1), .., of which the first is row `first`.
 fn store_pairs_of(
     k: Kernel,
-    p: RawParams,
+    p: Params,
     variance: [f64; 67],
     window: f64,
     dim: usize,
@@ -66,14 +66,7 @@ fn store_pairs_of(
     }
 }
 
-fn store_pairs(
-    k: Kernel,
-    p: RawParams,
-    variance: [f64; 67],
-    window: f64,
-    dim: usize,
-    work: &mut [f64],
-)
+fn store_pairs(k: Kernel, p: Params, variance: [f64; 67], window: f64, dim: usize, work: &mut [f64])
     requires { ⌜ (k .n ≤ 10) × (dim ≡ dimension (k .n)) × (dim * dim ≤ length (now work)) ⌝ }
     requires { ⌜ take (dimension (k .n)) variance ≡ varianceRow (kernelInUse k) p ⌝ }
     ensures { λ _. ⌜ Appended (k .n * dim)
@@ -92,7 +85,7 @@ fn store_pairs(
 
 // The whole generator: the rows of the means, of the pairs, of the integral, which is E[V], and of
 // the constant.
-pub fn fill(k: Kernel, p: RawParams, window: f64, work: &mut [f64])
+pub fn fill(k: Kernel, p: Params, window: f64, work: &mut [f64])
     requires { ⌜ (k .n ≤ 10) × (dimension (k .n) * dimension (k .n) ≤ length (now work)) ⌝ }
     ensures { λ _. ⌜ take (dimension (k .n) * dimension (k .n)) (now (work .exit))
         ≡ generator (kernelInUse k) p window ⌝ }

@@ -12,7 +12,7 @@ use lib.Seq.{getD-take}
 use lib.Ieee.{Float, nan, neg}
 use Rattle.numeric.specs.Double.{plus, times, one, plusZero}
 use Rattle.model.specs.declared.Kernel.{Kernel}
-use Rattle.model.specs.declared.RawParams.{RawParams}
+use Rattle.model.specs.declared.Params.{Params}
 use Rattle.model.specs.Inner.InUse.{kernelInUse}
 use Rattle.generator_rows.specs.State.{dimension, pairAt}
 use Rattle.generator_rows.specs.Rows.{weight, discount, two, meanCoefficient, pairCoefficient, meanReversion, meanEntry, meanRow, driftEntry, varianceRow, pairRow}
@@ -31,7 +31,7 @@ once {m} i e = let same : i ≡ i + m = omega arith in rw (eq-eqb i (i + m) same
 pub twice : {m : ℕ} (i : ℕ) → (m ≡ 0 → ⊥) → two ≡ cond (eqb i (i + m)) one two
 twice {m} i d = rw (ne-eqb i (i + m) (λ e. d (omega arith)))
 
-module _ (k : Kernel) (p : RawParams) where
+module _ (k : Kernel) (p : Params) where
   -- ---- of the tables only the first n are in use
   weight-in-use : {i : ℕ} → i < k .n → weight k i ≡ weight (kernelInUse k) i
   weight-in-use {i} h = sym (getD-take (k .n) (k .weights) i nan h)

@@ -10,7 +10,7 @@ use lib.Seq.{getD-append-add}
 use lib.Ieee.{Float, nan}
 use Rattle.numeric.specs.Double.{plusZero}
 use Rattle.model.specs.declared.Kernel.{Kernel}
-use Rattle.model.specs.declared.RawParams.{RawParams}
+use Rattle.model.specs.declared.Params.{Params}
 use Rattle.generator_rows.specs.State.{pairsBefore, joined, pairsOfRow, pairsOfRows, inStateOrder, pairAt, integralAt, constantAt, InOrder}
 use Rattle.generator_rows.specs.Rows.{meanCoefficient, pairCoefficient, constantCoefficient, varianceRow}
 use Rattle.generator_rows.proofs.Pairs.{fewer-rows}
@@ -115,7 +115,7 @@ module _ (n : ℕ) (mean : ℕ → Float) (pair : ℕ → ℕ → Float) (integr
           ∙ ap (pair i) m
 
 -- so it is of E[V]
-pub variance-in-order : (k : Kernel) (p : RawParams)
+pub variance-in-order : (k : Kernel) (p : Params)
     → InOrder (k .n) (meanCoefficient k p) (pairCoefficient k p) plusZero (constantCoefficient p) (varianceRow k p)
 unfolding varianceRow
 variance-in-order k p = in-order (k .n) (meanCoefficient k p) (pairCoefficient k p) plusZero (constantCoefficient p)

@@ -14,7 +14,7 @@ use lib.Ieee.{Float, nan, fin, add, mul, neg}
 use Rattle.numeric.specs.Double.{plus, times, one, plusZero}
 use Rattle.numeric.specs.Table.{tabulate}
 use Rattle.model.specs.declared.Kernel.{Kernel}
-use Rattle.model.specs.declared.RawParams.{RawParams}
+use Rattle.model.specs.declared.Params.{Params}
 use Rattle.generator_rows.specs.State.{inStateOrder, pairsBefore, pairAt, dimension}
 
 -- ---- Rule 11.3: E[V] as a row over the state
@@ -29,22 +29,22 @@ abbrev pub two : Float
 two = fin false 1 (pos 1)
 
 -- -2 × a × b × weight at a mean
-unfoldable pub meanCoefficient : Kernel → RawParams → ℕ → Float
+unfoldable pub meanCoefficient : Kernel → Params → ℕ → Float
 unfolding mul neg
 meanCoefficient k p i = times (times (times (neg two) (p .a)) (p .b)) (weight k i)
 
 -- a × weight × weight at a pair, twice where its two factors differ
-unfoldable pub pairCoefficient : Kernel → RawParams → ℕ → ℕ → Float
+unfoldable pub pairCoefficient : Kernel → Params → ℕ → ℕ → Float
 unfolding mul
 pairCoefficient k p i j =
     times (times (times (cond (eqb i j) one two) (p .a)) (weight k i)) (weight k j)
 
 -- a × b × b + c at the constant
-unfoldable pub constantCoefficient : RawParams → Float
+unfoldable pub constantCoefficient : Params → Float
 unfolding add mul
 constantCoefficient p = plus (times (times (p .a) (p .b)) (p .b)) (p .c)
 
-unfoldable pub varianceRow : Kernel → RawParams → List Float
+unfoldable pub varianceRow : Kernel → Params → List Float
 unfolding inStateOrder meanCoefficient pairCoefficient constantCoefficient
 varianceRow k p =
     inStateOrder (k .n) (λ i. meanCoefficient k p i ∷ []) (λ i j. pairCoefficient k p i j ∷ [])
@@ -58,25 +58,25 @@ unfolding add
 addedAt at value column sum = cond (eqb column at) (plus sum value) sum
 
 -- the mean reversion by factor m: (-lambda) × weight
-unfoldable pub meanReversion : Kernel → RawParams → ℕ → Float
+unfoldable pub meanReversion : Kernel → Params → ℕ → Float
 unfolding mul neg
 meanReversion k p m = times (neg (p .lambda)) (weight k m)
 
 -- Rule 11.5: the row of mean i has -discount at its own column, then the mean reversion at each
 -- mean; an entry of it after so many of these
-unfoldable pub meanEntry : Kernel → RawParams → ℕ → ℕ → ℕ → Float
+unfoldable pub meanEntry : Kernel → Params → ℕ → ℕ → ℕ → Float
 unfolding addedAt meanReversion neg
 meanEntry k p i column zero = addedAt i (neg (discount k i)) column plusZero
 meanEntry k p i column (suc m) =
     addedAt m (meanReversion k p m) column (meanEntry k p i column m)
 
-unfoldable pub meanRow : Kernel → RawParams → ℕ → List Float
+unfoldable pub meanRow : Kernel → Params → ℕ → List Float
 unfolding tabulate meanEntry pairsBefore
 meanRow k p i = tabulate (dimension (k .n)) (λ column. meanEntry k p i column (k .n))
 
 -- Rule 11.6: the row of the pair (i, j) has -(discount + discount) at its own column, then for each
 -- m the mean reversion at the pairs (m, j) and (i, m)
-unfoldable pub driftEntry : Kernel → RawParams → ℕ → ℕ → ℕ → ℕ → Float
+unfoldable pub driftEntry : Kernel → Params → ℕ → ℕ → ℕ → ℕ → Float
 unfolding addedAt meanReversion add neg pairsBefore
 driftEntry k p i j column zero =
     addedAt (pairAt (k .n) i j) (neg (plus (discount k i) (discount k j))) column plusZero
@@ -85,7 +85,7 @@ driftEntry k p i j column (suc m) =
     (addedAt (pairAt (k .n) m j) (meanReversion k p m) column (driftEntry k p i j column m))
 
 -- and at last eta² × E[V] at every column
-unfoldable pub pairRow : Kernel → RawParams → ℕ → ℕ → List Float
+unfoldable pub pairRow : Kernel → Params → ℕ → ℕ → List Float
 unfolding tabulate driftEntry varianceRow add mul pairsBefore
 pairRow k p i j =
     tabulate (dimension (k .n))

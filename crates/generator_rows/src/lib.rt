@@ -16,10 +16,10 @@ ghost use Rattle.generator_rows.specs.Rows.{driftEntry, pairRow};
 pub mod state;
 
 use model::Kernel;
-use model::RawParams;
+use model::Params;
 
 // The part of E[V] in the means: -2 × a × b × weight.
-fn mean_coefficients(k: Kernel, p: RawParams) -> [f64; 67]
+fn mean_coefficients(k: Kernel, p: Params) -> [f64; 67]
     requires { ⌜ k .n ≤ 10 ⌝ }
     ensures { λ r. ⌜ take (k .n) r
         ≡ joined (λ i. meanCoefficient (kernelInUse k) p i ∷ []) (k .n) ⌝ }
@@ -35,13 +35,7 @@ fn mean_coefficients(k: Kernel, p: RawParams) -> [f64; 67]
 }
 
 // The part of E[V] in the pairs of row i: a × weight × weight, twice where the two factors differ.
-fn pair_coefficients(
-    k: Kernel,
-    p: RawParams,
-    i: usize,
-    first: usize,
-    before: [f64; 67],
-) -> [f64; 67]
+fn pair_coefficients(k: Kernel, p: Params, i: usize, first: usize, before: [f64; 67]) -> [f64; 67]
     requires { ⌜ (k .n ≤ 10) × (i < k .n) × (first ≡ pairAt (k .n) i i) ⌝ }
     ensures { λ r. ⌜ Appended first
         (pairsOfRow (λ i j. pairCoefficient (kernelInUse k) p i j ∷ []) i (k .n - i)) before r ⌝ }
@@ -58,7 +52,7 @@ fn pair_coefficients(
 }
 
 // E[V] as a row over the state.
-pub fn variance_row(k: Kernel, p: RawParams) -> [f64; 67]
+pub fn variance_row(k: Kernel, p: Params) -> [f64; 67]
     requires { ⌜ k .n ≤ 10 ⌝ }
     ensures row { λ r. ⌜ take (dimension (k .n)) r ≡ varianceRow (kernelInUse k) p ⌝ }
     ensures order { λ r. ⌜ InOrder (k .n) (meanCoefficient (kernelInUse k) p)
@@ -88,7 +82,7 @@ fn add_to(row: &mut [f64; 67], column: usize, value: f64)
 }
 
 // The row of mean i: -discount at its own column, then (-lambda) × weight at each mean.
-pub fn mean_row(k: Kernel, p: RawParams, i: usize) -> [f64; 67]
+pub fn mean_row(k: Kernel, p: Params, i: usize) -> [f64; 67]
     requires { ⌜ (k .n ≤ 10) × (i < k .n) ⌝ }
     ensures { λ r. ⌜ take (dimension (k .n)) r ≡ meanRow (kernelInUse k) p i ⌝ }
 {
@@ -105,7 +99,7 @@ pub fn mean_row(k: Kernel, p: RawParams, i: usize) -> [f64; 67]
 
 // The row of the pair (i, j) without E[V]: -(discount + discount) at its own column, then for each
 // m (-lambda) × weight at the pairs (m, j) and (i, m).
-fn drift_row(k: Kernel, p: RawParams, i: usize, j: usize) -> [f64; 67]
+fn drift_row(k: Kernel, p: Params, i: usize, j: usize) -> [f64; 67]
     requires { ⌜ (k .n ≤ 10) × (i < k .n) × (j < k .n) ⌝ }
     ensures { λ r. ⌜ ((column : ℕ) → column < dimension (k .n)
         → getD r column nan ≡ driftEntry (kernelInUse k) p i j column (k .n)) ⌝ }
@@ -127,7 +121,7 @@ fn drift_row(k: Kernel, p: RawParams, i: usize, j: usize) -> [f64; 67]
 }
 
 // The whole row of the pair (i, j): eta² × E[V] is added at every column.
-pub fn pair_row(k: Kernel, p: RawParams, variance: [f64; 67], i: usize, j: usize) -> [f64; 67]
+pub fn pair_row(k: Kernel, p: Params, variance: [f64; 67], i: usize, j: usize) -> [f64; 67]
     requires { ⌜ (k .n ≤ 10) × (i < k .n) × (j < k .n) ⌝ }
     requires { ⌜ take (dimension (k .n)) variance ≡ varianceRow (kernelInUse k) p ⌝ }
     ensures { λ r. ⌜ take (dimension (k .n)) r ≡ pairRow (kernelInUse k) p i j ⌝ }

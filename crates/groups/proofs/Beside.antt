@@ -15,7 +15,7 @@ use Rattle.model.specs.declared.State.{State}
 use Rattle.model.specs.Step.{step, finiteness}
 use Rattle.model.specs.Inner.InUse.{stateInUse}
 use Rattle.numeric.proofs.Tables.{take-is-tabulate}
-use Rattle.model.specs.Schedule.{lastStep, dtAt, sqrtDtAt}
+use Rattle.model.specs.TimeGrid.{lastStep, dtAt, sqrtDtAt}
 use Rattle.model.specs.Inner.Laid.{Laid}
 use Rattle.lanes.specs.Inner.Lanes.{laneOf, AllAt, Spread, FiniteLane}
 use Rattle.model.specs.Walk.{stateAfter}
@@ -28,13 +28,13 @@ use Rattle.groups.specs.Inner.Group.{flagged, Fell, FourWalked}
 
 -- the cells of the four rows up to `segment`
 abbrev pub RowsFilled : Batch → ℕ → ℕ → List Float → Type 0
-RowsFilled b path segment rows = (l j : ℕ) → l < 4 → j < segment → getD rows (l * b .simulation .schedule .count + j) nan ≡ observation b (suc (path + l)) (suc j)
+RowsFilled b path segment rows = (l j : ℕ) → l < 4 → j < segment → getD rows (l * b .simulation .grid .count + j) nan ≡ observation b (suc (path + l)) (suc j)
 
 -- at the head of the loop: `at` steps of paths path + 1 to path + 4 are walked, and their rows are
 -- filled up to `segment`
 pub record Beside (b : Batch) (n path : ℕ) (segment at : ℕ) (s : Lanes) (factors : List Float) (low : List Bool) (rows : List Float) : Type 0 where
-  pub most : at ≤ b .simulation .schedule .total
-  pub reached : Reached (b .simulation .schedule) segment at
+  pub most : at ≤ b .simulation .grid .total
+  pub reached : Reached (b .simulation .grid) segment at
   pub long : length factors ≡ 40
   pub wide : length rows ≡ 256
   pub state : (l : ℕ) → l < 4 → laneOf n s factors l ≡ stateAfter (walkOf b (suc (path + l))) at
@@ -42,12 +42,12 @@ pub record Beside (b : Batch) (n path : ℕ) (segment at : ℕ) (s : Lanes) (fac
   pub filled : RowsFilled b path segment rows
 
 -- the loop begins
-pub beside-first : (b : Batch) → Laid (b .simulation .schedule) → (n path : ℕ) (s : Lanes) (factors : List Float) (low : List Bool) (rows : List Float) → length factors ≡ 40 → length rows ≡ 256 → ((l : ℕ) → l < 4 → laneOf n s factors l ≡ b .simulation .start) → ((l : ℕ) → l < 4 → getD low l false ≡ false) → Beside b n path 0 0 s factors low rows
+pub beside-first : (b : Batch) → Laid (b .simulation .grid) → (n path : ℕ) (s : Lanes) (factors : List Float) (low : List Bool) (rows : List Float) → length factors ≡ 40 → length rows ≡ 256 → ((l : ℕ) → l < 4 → laneOf n s factors l ≡ b .simulation .start) → ((l : ℕ) → l < 4 → getD low l false ≡ false) → Beside b n path 0 0 s factors low rows
 unfolding stateAfter nonPositiveBy
 beside-first b ok n path s factors low rows long wide state flags =
     record {
       most = omega arith;
-      reached = reached-none (b .simulation .schedule) ok;
+      reached = reached-none (b .simulation .grid) ok;
       long = long;
       wide = wide;
       state = state;
@@ -55,25 +55,25 @@ beside-first b ok n path s factors low rows long wide state flags =
       filled = λ l j h k. absurd (omega arith);
     }
 
-module _ {b : Batch} (ok : Laid (b .simulation .schedule)) {n path segment at : ℕ} {s : Lanes} {factors : List Float} {low : List Bool} {rows : List Float} (h : Beside b n path segment at s factors low rows) where
-  module _ (k : at < b .simulation .schedule .total) (s′ : Lanes) (factors′ : List Float) (low′ : List Bool)
-      (e : (l : ℕ) → l < 4 → laneOf n s′ factors′ l ≡ step (b .simulation .kernel) (b .simulation .raw) (laneOf n s factors l) (b .draw (suc (path + l)) (suc at)) (dtAt (b .simulation .schedule) (suc at)) (sqrtDtAt (b .simulation .schedule) (suc at)))
+module _ {b : Batch} (ok : Laid (b .simulation .grid)) {n path segment at : ℕ} {s : Lanes} {factors : List Float} {low : List Bool} {rows : List Float} (h : Beside b n path segment at s factors low rows) where
+  module _ (k : at < b .simulation .grid .total) (s′ : Lanes) (factors′ : List Float) (low′ : List Bool)
+      (e : (l : ℕ) → l < 4 → laneOf n s′ factors′ l ≡ step (b .simulation .kernel) (b .simulation .params) (laneOf n s factors l) (b .draw (suc (path + l)) (suc at)) (dtAt (b .simulation .grid) (suc at)) (sqrtDtAt (b .simulation .grid) (suc at)))
       (long′ : length factors′ ≡ 40) (f : Fell low (s′ .spot) low′) where
     next-state : (l : ℕ) → l < 4 → laneOf n s′ factors′ l ≡ stateAfter (walkOf b (suc (path + l))) (suc at)
     unfolding stateAfter
-    next-state l m = e l m ∙ ap (λ (x : State). step (b .simulation .kernel) (b .simulation .raw) x (b .draw (suc (path + l)) (suc at)) (dtAt (b .simulation .schedule) (suc at)) (sqrtDtAt (b .simulation .schedule) (suc at))) (h .state l m)
+    next-state l m = e l m ∙ ap (λ (x : State). step (b .simulation .kernel) (b .simulation .params) x (b .draw (suc (path + l)) (suc at)) (dtAt (b .simulation .grid) (suc at)) (sqrtDtAt (b .simulation .grid) (suc at))) (h .state l m)
 
     next-low : (l : ℕ) → l < 4 → getD low′ l false ≡ nonPositiveBy (walkOf b (suc (path + l))) (suc at)
     unfolding nonPositiveBy
     next-low l m = f .flag l m ∙ rw (h .fallen l m, ap (λ (x : State). x .spot) (next-state l m))
 
     -- a step that ends no segment
-    pub beside-on : (at + 1 ≡ lastStep (b .simulation .schedule) (suc segment) → ⊥) → Beside b n path segment (at + 1) s′ factors′ low′ rows
+    pub beside-on : (at + 1 ≡ lastStep (b .simulation .grid) (suc segment) → ⊥) → Beside b n path segment (at + 1) s′ factors′ low′ rows
     beside-on ne =
-        let here : segment < b .simulation .schedule .count = reached-open (b .simulation .schedule) ok segment at (h .reached) k in
+        let here : segment < b .simulation .grid .count = reached-open (b .simulation .grid) ok segment at (h .reached) k in
         record {
           most = omega arith;
-          reached = reached-on (b .simulation .schedule) ok segment at (h .reached) here ne;
+          reached = reached-on (b .simulation .grid) ok segment at (h .reached) here ne;
           long = long′;
           wide = h .wide;
           state = λ l m. rw add-one (next-state l m);
@@ -82,14 +82,14 @@ module _ {b : Batch} (ok : Laid (b .simulation .schedule)) {n path segment at : 
         }
 
     -- a step that ends a segment, whose column is written
-    pub beside-write : at + 1 ≡ lastStep (b .simulation .schedule) (suc segment) → (rows′ : List Float) → length rows′ ≡ 256 → ((l : ℕ) → l < 4 → getD rows′ (l * b .simulation .schedule .count + segment) nan ≡ b .observe (laneOf n s′ factors′ l)) → ((l j : ℕ) → l < 4 → j < b .simulation .schedule .count → (j ≡ segment → ⊥) → getD rows′ (l * b .simulation .schedule .count + j) nan ≡ getD rows (l * b .simulation .schedule .count + j) nan) → Beside b n path (segment + 1) (at + 1) s′ factors′ low′ rows′
+    pub beside-write : at + 1 ≡ lastStep (b .simulation .grid) (suc segment) → (rows′ : List Float) → length rows′ ≡ 256 → ((l : ℕ) → l < 4 → getD rows′ (l * b .simulation .grid .count + segment) nan ≡ b .observe (laneOf n s′ factors′ l)) → ((l j : ℕ) → l < 4 → j < b .simulation .grid .count → (j ≡ segment → ⊥) → getD rows′ (l * b .simulation .grid .count + j) nan ≡ getD rows (l * b .simulation .grid .count + j) nan) → Beside b n path (segment + 1) (at + 1) s′ factors′ low′ rows′
     unfolding observation
     beside-write q rows′ wide′ new kept =
-        let here : segment < b .simulation .schedule .count = reached-open (b .simulation .schedule) ok segment at (h .reached) k in
-        let q′ : suc at ≡ lastStep (b .simulation .schedule) (suc segment) = rw add-one at q in
+        let here : segment < b .simulation .grid .count = reached-open (b .simulation .grid) ok segment at (h .reached) k in
+        let q′ : suc at ≡ lastStep (b .simulation .grid) (suc segment) = rw add-one at q in
         record {
           most = omega arith;
-          reached = reached-next (b .simulation .schedule) ok segment at (h .reached) here q;
+          reached = reached-next (b .simulation .grid) ok segment at (h .reached) here q;
           long = long′;
           wide = wide′;
           state = λ l m. rw add-one (next-state l m);
@@ -98,14 +98,14 @@ module _ {b : Batch} (ok : Laid (b .simulation .schedule)) {n path segment at : 
               ⊎-elim (λ (z : j < segment). kept l j m (omega arith) (λ (y : j ≡ segment). absurd (omega arith)) ∙ h .filled l j m z)
               (λ (z : segment ≤ j).
               let t : j ≡ segment = omega arith in
-              subst (λ (x : ℕ). getD rows′ (l * b .simulation .schedule .count + x) nan ≡ b .observe (stateAfter (walkOf b (suc (path + l))) (lastStep (b .simulation .schedule) (suc x)))) (sym t)
+              subst (λ (x : ℕ). getD rows′ (l * b .simulation .grid .count + x) nan ≡ b .observe (stateAfter (walkOf b (suc (path + l))) (lastStep (b .simulation .grid) (suc x)))) (sym t)
               (new l m ∙ ap (b .observe) (next-state l m ∙ ap (stateAfter (walkOf b (suc (path + l)))) q′)))
               (split j segment);
         }
 
   -- the loop ends
-  module _ (k : b .simulation .schedule .total ≤ at) where
-    all : at ≡ b .simulation .schedule .total
+  module _ (k : b .simulation .grid .total ≤ at) where
+    all : at ≡ b .simulation .grid .total
     all = omega (arith, h .most)
 
     fallen-among : (m : ℕ) → m ≤ 4 → nonPositivePaths b (path + m) ≡ nonPositivePaths b path + flagged low m
@@ -121,11 +121,11 @@ module _ {b : Batch} (ok : Laid (b .simulation .schedule)) {n path segment at : 
     beside-done count e few f =
         record {
           going = λ l m.
-              never-stopped (walkOf b (suc (path + l))) (b .simulation .schedule .total)
+              never-stopped (walkOf b (suc (path + l))) (b .simulation .grid .total)
               (ap finiteness (sym (h .state l m ∙ ap (stateAfter (walkOf b (suc (path + l)))) all)) ∙ parts-finite (laneOf n s factors l) (f l m .spot) (f l m .z) (f l m .variance));
           fallen = fallen-among 4 (omega arith) ∙ ap (λ (x : ℕ). nonPositivePaths b path + x) (sym e);
           few = few;
-          seen = λ l j m i. h .filled l j m (omega (arith, reached-shut (b .simulation .schedule) ok segment at (h .reached) k));
+          seen = λ l j m i. h .filled l j m (omega (arith, reached-shut (b .simulation .grid) ok segment at (h .reached) k));
         }
 
 -- every lane at the start

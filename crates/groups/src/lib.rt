@@ -106,9 +106,9 @@ pub fn walk_four(batch: Batch, path: usize, draws: &[f64], rows: &mut [f64]) -> 
     let observation = batch.observation;
     let simulation = batch.simulation;
     let k = simulation.kernel;
-    let p = simulation.raw;
+    let p = simulation.params;
     let start = simulation.start;
-    let sched = simulation.schedule;
+    let sched = simulation.grid;
     let total = sched.total;
     let count = sched.count;
     let own = start.factors;

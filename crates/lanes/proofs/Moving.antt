@@ -15,7 +15,7 @@ use Rattle.numeric.proofs.Tables.{getD-tabulate, tabulate-same}
 use Rattle.model.specs.declared.Kernel.{Kernel}
 use Rattle.lanes.specs.declared.Lanes.{Lanes}
 use Rattle.model.specs.declared.Rates.{Rates}
-use Rattle.model.specs.declared.RawParams.{RawParams}
+use Rattle.model.specs.declared.Params.{Params}
 use Rattle.model.specs.declared.State.{State}
 use Rattle.model.specs.Inner.Rates.{RatesOf}
 use Rattle.lanes.specs.Inner.Lanes.{laneFactors, laneOf, RowMoved, LanesMoved, LanesStepped}
@@ -72,7 +72,7 @@ going-done n forcing divisors weights before after z g =
 abbrev pub diffusionOf : Float → Float → Float → Float
 diffusionOf sqrtDt y g = times y (times sqrtDt g)
 
-abbrev pub forcingOf : RawParams → Float → Float → Float → Float
+abbrev pub forcingOf : Params → Float → Float → Float → Float
 forcingOf p dt z d = plus (times (times (neg (p .lambda)) z) dt) (times (p .eta) d)
 
 weights-take : (weights f : List Float) (n k : ℕ) → k ≤ n → weightedSum (take n weights) f k ≡ weightedSum weights f k
@@ -80,7 +80,7 @@ unfolding weightedSum
 weights-take weights f n zero h = refl
 weights-take weights f n (suc k) h = rw (weights-take weights f n k (omega arith), getD-take n weights k nan h)
 
-module _ (k : Kernel) (p : RawParams) (s : Lanes) (rates : Rates) (forcing before after z : List Float) (own : RatesOf k (rates .dt) (rates .«sqrt_dt») rates) (m : LanesMoved (k .n) forcing (rates .divisors) (k .weights) before after z) (l : ℕ) (h : l < 4) where
+module _ (k : Kernel) (p : Params) (s : Lanes) (rates : Rates) (forcing before after z : List Float) (own : RatesOf k (rates .dt) (rates .«sqrt_dt») rates) (m : LanesMoved (k .n) forcing (rates .divisors) (k .weights) before after z) (l : ℕ) (h : l < 4) where
   lane-moved : laneFactors (k .n) after l ≡ moved (kernelInUse k) (laneFactors (k .n) before l) (getD forcing l nan) (rates .dt)
   unfolding moved
   lane-moved =
@@ -102,7 +102,7 @@ module _ (k : Kernel) (p : RawParams) (s : Lanes) (rates : Rates) (forcing befor
       ∙ ap (read (kernelInUse k) p spot) (lane-moved ∙ ap (λ (x : Float). moved (kernelInUse k) (laneFactors (k .n) before l) x (rates .dt)) f)
       ∙ rw (q, e)
 
-pub lanes-stepped : (roots : List Float) (k : Kernel) (p : RawParams) (s : Lanes) (g : List Float) (rates : Rates) (before after : List Float) (next : Lanes) (forcing : List Float)
+pub lanes-stepped : (roots : List Float) (k : Kernel) (p : Params) (s : Lanes) (g : List Float) (rates : Rates) (before after : List Float) (next : Lanes) (forcing : List Float)
     → RatesOf k (rates .dt) (rates .«sqrt_dt») rates
     → LanesMoved (k .n) forcing (rates .divisors) (k .weights) before after (next .z)
     → ((l : ℕ) → l < 4 → getD forcing l nan ≡ forcingOf p (rates .dt) (getD (s .z) l nan) (diffusionOf (rates .«sqrt_dt») (getD roots l nan) (getD g l nan)))

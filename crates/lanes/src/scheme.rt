@@ -9,8 +9,8 @@ use crate::Tried;
 use crate::roots;
 use crate::rows;
 use model::Kernel;
+use model::Params;
 use model::Rates;
-use model::RawParams;
 use model::scheme;
 
 // Every factor moved, and each lane's sum of weight × factor, in index order, begun at -0.0.
@@ -42,7 +42,7 @@ fn move_factors(
 fn step_with(
     roots: [f64; 4],
     k: Kernel,
-    p: RawParams,
+    p: Params,
     s: Lanes,
     g: [f64; 4],
     rates: Rates,
@@ -83,7 +83,7 @@ fn step_with(
 // The step with guessed roots, which are asked after it, so that it does not wait for the answer.
 pub fn try_step(
     k: Kernel,
-    p: RawParams,
+    p: Params,
     s: Lanes,
     g: [f64; 4],
     rates: Rates,

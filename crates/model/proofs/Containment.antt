@@ -1,5 +1,5 @@
--- The segment that contains a step. In a schedule as its door lays it out, each step from 1 to N is
--- contained in exactly one. Assumes nothing.
+-- The segment that contains a step. In a time grid as admission lays it out, each step from 1 to N
+-- is contained in exactly one. Assumes nothing.
 use mathlib.Core.Path.{_≡_, refl, ap, _∙_}
 use mathlib.Core.Bool.{Bool, true, false, cond, and-false, and-eq-true-iff}
 use mathlib.Core.Option.{Option, none, some, Option·getD}
@@ -12,19 +12,19 @@ use lib.Dec.{ltb, leb}
 use lib.ListN.{getD}
 use lib.Seq.{getD-take}
 use lib.Ieee.{nan}
-use Rattle.model.specs.declared.Schedule.{Schedule}
-use Rattle.model.specs.Schedule.{lastStep, contains, segmentOf, dtAt, sqrtDtAt}
-use Rattle.model.specs.Inner.InUse.{scheduleInUse}
+use Rattle.model.specs.declared.TimeGrid.{TimeGrid}
+use Rattle.model.specs.TimeGrid.{lastStep, contains, segmentOf, dtAt, sqrtDtAt}
+use Rattle.model.specs.Inner.InUse.{gridInUse}
 use Rattle.model.specs.Inner.Laid.{Laid}
 use Rattle.model.proofs.First.{split, at-first}
 
 -- ---- g segments have ended by step k, and the next, if there is one, has not
-pub record Reached (sc : Schedule) (g k : ℕ) : Type 0 where
+pub record Reached (sc : TimeGrid) (g k : ℕ) : Type 0 where
   pub most : g ≤ sc .count
   pub behind : lastStep sc g ≤ k
   pub ahead : g < sc .count → k < lastStep sc (suc g)
 
-module _ (sc : Schedule) (laid : Laid sc) where
+module _ (sc : TimeGrid) (laid : Laid sc) where
   last-before : (i g : ℕ) → i ≤ g → g ≤ sc .count → lastStep sc i ≤ lastStep sc g
   last-before i g h b =
       ⊎-elim (λ (z : i < g). omega (arith, laid .rises i g z b))
@@ -95,12 +95,12 @@ module _ (sc : Schedule) (laid : Laid sc) where
   reached-ahead g k h i b z = omega (arith, h .ahead (omega arith), last-before (suc g) (suc i) (omega arith) z)
 
 -- ---- the first places of the arrays of a schedule, which are in use
-module _ (sc : Schedule) where
-  last-in-use : (i : ℕ) → i ≤ sc .count → lastStep (scheduleInUse sc) i ≡ lastStep sc i
+module _ (sc : TimeGrid) where
+  last-in-use : (i : ℕ) → i ≤ sc .count → lastStep (gridInUse sc) i ≡ lastStep sc i
   last-in-use zero h = refl
   last-in-use (suc i) h = getD-take (sc .count) (sc .last) i 0 h
 
-  pub laid-in-use : Laid sc → Laid (scheduleInUse sc)
+  pub laid-in-use : Laid sc → Laid (gridInUse sc)
   laid-in-use laid =
       record {
         some = laid .some;
@@ -112,20 +112,20 @@ module _ (sc : Schedule) where
 
   -- the rates of the next step are those of the segment that is still to end
   module _ (laid : Laid sc) (g k : ℕ) (h : Reached sc g k) (b : g < sc .count) where
-    segment-is : segmentOf (scheduleInUse sc) (suc k) ≡ suc g
+    segment-is : segmentOf (gridInUse sc) (suc k) ≡ suc g
     segment-is =
-        segment-of (scheduleInUse sc) (laid-in-use laid) g (suc k) b
+        segment-of (gridInUse sc) (laid-in-use laid) g (suc k) b
         (rw (last-in-use g (omega arith)) (omega (arith, h .behind))) (rw (last-in-use (suc g) b) (h .ahead b))
 
-    pub dt-reached : dtAt (scheduleInUse sc) (suc k) ≡ getD (sc .dt) g nan
+    pub dt-reached : dtAt (gridInUse sc) (suc k) ≡ getD (sc .dt) g nan
     unfolding dtAt
     dt-reached = rw segment-is (getD-take (sc .count) (sc .dt) g nan b)
 
-    pub sqrt-dt-reached : sqrtDtAt (scheduleInUse sc) (suc k) ≡ getD (sc .«sqrt_dt») g nan
+    pub sqrt-dt-reached : sqrtDtAt (gridInUse sc) (suc k) ≡ getD (sc .«sqrt_dt») g nan
     unfolding sqrtDtAt
     sqrt-dt-reached = rw segment-is (getD-take (sc .count) (sc .«sqrt_dt») g nan b)
 
-  pub reached-in-use : (g k : ℕ) → Reached (scheduleInUse sc) g k → Reached sc g k
+  pub reached-in-use : (g k : ℕ) → Reached (gridInUse sc) g k → Reached sc g k
   reached-in-use g k h =
       record {
         most = h .most;
@@ -134,7 +134,7 @@ module _ (sc : Schedule) where
       }
 
 -- ---- each step is contained in one segment, and in one only
-module _ (sc : Schedule) (laid : Laid sc) where
+module _ (sc : TimeGrid) (laid : Laid sc) where
   -- a segment among the first n contains step k, if k is not past the last of them
   find : (n k : ℕ) → n ≤ sc .count → 1 ≤ k → k ≤ lastStep sc n → (g : ℕ) × (g < n) × (lastStep sc g < k) × (k ≤ lastStep sc (suc g))
   find zero k h lo hi = absurd (omega arith)

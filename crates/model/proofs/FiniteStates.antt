@@ -98,7 +98,7 @@ module _ (m : Simulation) (ok : Admitted m) where
   pub start-finite : finiteness (m .start) ≡ Finite
   unfolding read varianceAt
   start-finite =
-      let p = m .raw in
+      let p = m .params in
       let sum : Within 196 (weightedSum (m .kernel .weights) (m .start .factors) (m .kernel .n)) =
       within-mono (sum-within (m .kernel .n) (omega arith)) (omega (arith, ok .few)) in
       let shifted = minus-within sum (within-mono (converted-within (ok .params .b)) (omega arith)) (omega arith) in
@@ -107,16 +107,16 @@ module _ (m : Simulation) (ok : Admitted m) where
       ap finiteness (ok .start-read)
       ∙ parts-finite _ (converted-within (ok .params .spot) .is-finite) (sum .is-finite) (variance .is-finite)
 
-  a-sign : sign (m .raw .a) ≡ false
-  a-sign = no-sign (m .raw .a) (converted-within (ok .params .a) .is-finite) (ok .params .a-not-negative)
+  a-sign : sign (m .params .a) ≡ false
+  a-sign = no-sign (m .params .a) (converted-within (ok .params .a) .is-finite) (ok .params .a-not-negative)
 
   -- a state that is read off its factors
-  read-sound : (spot : Float) (factors : List Float) → finiteness (read (m .kernel) (m .raw) spot factors) ≡ Finite
-      → Sound m (read (m .kernel) (m .raw) spot factors)
+  read-sound : (spot : Float) (factors : List Float) → finiteness (read (m .kernel) (m .params) spot factors) ≡ Finite
+      → Sound m (read (m .kernel) (m .params) spot factors)
   unfolding read varianceAt
   read-sound spot factors f =
       let k = m .kernel in
-      let p = m .raw in
+      let p = m .params in
       let parts = finite-parts (read k p spot factors) f in
       let z = weightedSum (k .weights) factors (k .n) in
       record {

@@ -10,7 +10,7 @@ use Rattle.numeric.specs.Double.{plus, times, one}
 use Rattle.numeric.proofs.Tables.{take-is-tabulate}
 use Rattle.numeric.specs.Root.{root}
 use Rattle.model.specs.declared.Kernel.{Kernel}
-use Rattle.model.specs.declared.RawParams.{RawParams}
+use Rattle.model.specs.declared.Params.{Params}
 use Rattle.model.specs.declared.State.{State}
 use Rattle.model.specs.declared.Rates.{Rates}
 use Rattle.model.specs.Step.{weightedSum, varianceAt, read, moved, step}
@@ -25,7 +25,7 @@ sum-take weights factors n (suc k) h =
     rw (sum-take weights factors n k (omega arith), getD-take n weights k nan h, getD-take n factors k nan h)
 
 -- what is read off the first n factors
-pub read-take : (k : Kernel) (p : RawParams) (spot z variance : Float) (factors : List Float) → z ≡ weightedSum (k .weights) factors (k .n) → variance ≡ varianceAt p z → _≡_ {A = State} (record { spot = spot; z = z; variance = variance; factors = take (k .n) factors }) (read (kernelInUse k) p spot (take (k .n) factors))
+pub read-take : (k : Kernel) (p : Params) (spot z variance : Float) (factors : List Float) → z ≡ weightedSum (k .weights) factors (k .n) → variance ≡ varianceAt p z → _≡_ {A = State} (record { spot = spot; z = z; variance = variance; factors = take (k .n) factors }) (read (kernelInUse k) p spot (take (k .n) factors))
 unfolding read
 read-take k p spot z variance factors e v =
     let sum : weightedSum (take (k .n) (k .weights)) (take (k .n) factors) (k .n) ≡ z = sum-take (k .weights) factors (k .n) (k .n) (omega arith) ∙ sym e in
@@ -52,7 +52,7 @@ pub rates-past : (k : Kernel) (r : Rates) (dts roots : List Float) (i : ℕ) →
 rates-past k r dts roots i d s h = rw (List·getD-eq-default dts nan d, List·getD-eq-default roots nan s) h
 
 -- a step, with the root taken beforehand
-module _ (k : Kernel) (p : RawParams) (s : State) (g : Float) (r : Rates) (next : List Float) (few : k .n ≤ 10) (rates : RatesOf k (r .dt) (r .«sqrt_dt») r) where
+module _ (k : Kernel) (p : Params) (s : State) (g : Float) (r : Rates) (next : List Float) (few : k .n ≤ 10) (rates : RatesOf k (r .dt) (r .«sqrt_dt») r) where
   abbrev diffusion : Float → Float
   diffusion y = times y (times (r .«sqrt_dt») g)
 

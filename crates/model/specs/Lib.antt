@@ -1,7 +1,7 @@
 pub mod Kernel
 pub mod Parameters
 pub mod First
-pub mod Schedule
+pub mod TimeGrid
 pub mod Step
 pub mod Simulation
 pub mod Questions

@@ -9,8 +9,8 @@ use Rattle.numeric.specs.Table.{tabulate}
 use Rattle.decimal.specs.declared.Decimal.{Decimal}
 use Rattle.decimal.specs.Decimal.{value}
 use Rattle.model.specs.declared.Kernel.{Kernel}
+use Rattle.model.specs.declared.Model.{Model}
 use Rattle.model.specs.declared.Params.{Params}
-use Rattle.model.specs.declared.RawParams.{RawParams}
 use Rattle.model.specs.declared.State.{State}
 use Rattle.model.specs.Step.{read}
 
@@ -19,8 +19,8 @@ abbrev pub zeroDecimal : Decimal
 zeroDecimal = record { low = 0; high = 0; scale = 0; negative = false }
 
 -- Rule 5.4: the parameters as converted
-abbrev pub rawParams : Params → RawParams
-rawParams p =
+abbrev pub paramsOf : Model → Params
+paramsOf p =
     record {
       a = value (p .a);
       b = value (p .b);
@@ -30,11 +30,11 @@ rawParams p =
     }
 
 -- Rule 5.4: the first n initial factors as converted
-unfoldable pub rawFactors : ℕ → List Decimal → List Float
+unfoldable pub factorsOf : ℕ → List Decimal → List Float
 unfolding tabulate
-rawFactors n factors = tabulate n (λ i. value (getD factors i zeroDecimal))
+factorsOf n factors = tabulate n (λ i. value (getD factors i zeroDecimal))
 
 -- Rule 5.8: the state with the spot and the initial factors, as converted
-unfoldable pub startOf : Kernel → Params → State
-unfolding read rawFactors
-startOf k p = read k (rawParams p) (value (p .spot)) (rawFactors (k .n) (p .factors))
+unfoldable pub startOf : Kernel → Model → State
+unfolding read factorsOf
+startOf k p = read k (paramsOf p) (value (p .spot)) (factorsOf (k .n) (p .factors))

@@ -10,7 +10,7 @@ use Rattle.numeric.specs.Root.{root}
 use Rattle.numeric.specs.Table.{tabulate}
 use Rattle.refusal.specs.declared.Quantity.the-variants.{Spot, Z, Variance}
 use Rattle.model.specs.declared.Kernel.{Kernel}
-use Rattle.model.specs.declared.RawParams.{RawParams}
+use Rattle.model.specs.declared.Params.{Params}
 use Rattle.model.specs.declared.State.{State}
 use Rattle.model.specs.declared.Finiteness.{Finiteness}
 use Rattle.model.specs.declared.Finiteness.the-variants.{Finite, NonFinite}
@@ -23,12 +23,12 @@ weightedSum weights factors (suc k) =
     plus (weightedSum weights factors k) (times (getD weights k nan) (getD factors k nan))
 
 -- Rule 5.6: with s = z - b, ((a × s) × s) + c
-unfoldable pub varianceAt : RawParams → Float → Float
+unfoldable pub varianceAt : Params → Float → Float
 unfolding add mul sub
 varianceAt p z = let s = minus z (p .b) in plus (times (times (p .a) s) s) (p .c)
 
 -- Rule 5.7: the state with this spot and these factors: z and variance are read off the factors
-unfoldable pub read : Kernel → RawParams → Float → List Float → State
+unfoldable pub read : Kernel → Params → Float → List Float → State
 unfolding weightedSum varianceAt
 read k p spot factors =
     let z = weightedSum (k .weights) factors (k .n) in
@@ -44,7 +44,7 @@ moved k factors f dt =
 -- Rule 7.2: a step with the draw g: dw = sqrt_dt × g, d = √variance × dw, and the forcing is
 -- f = (((-lambda) × z) × dt) + (eta × d), with z and variance of the state before the step.
 -- The spot becomes spot + (spot × d), and the factors are moved by f.
-unfoldable pub step : Kernel → RawParams → State → Float → Float → Float → State
+unfoldable pub step : Kernel → Params → State → Float → Float → Float → State
 unfolding read moved add mul neg root
 step k p s g dt sqrtDt =
     let dw = times sqrtDt g in

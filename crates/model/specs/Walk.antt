@@ -13,7 +13,7 @@ use Rattle.model.specs.declared.Finiteness.{Finiteness}
 use Rattle.model.specs.declared.Finiteness.the-variants.{Finite, NonFinite}
 use Rattle.model.specs.Step.{step, finiteness}
 use Rattle.model.specs.First.{firstSome}
-use Rattle.model.specs.Schedule.{dtAt, sqrtDtAt}
+use Rattle.model.specs.TimeGrid.{dtAt, sqrtDtAt}
 
 -- Rule 7.1: what a path walks on; `draw k` is the draw of its step k, counted from 1
 pub record Walk : Type 0 where
@@ -26,8 +26,8 @@ unfolding step dtAt sqrtDtAt
 stateAfter w zero = w .simulation .start
 stateAfter w (suc k) =
     let m = w .simulation in
-    step (m .kernel) (m .raw) (stateAfter w k) (w .draw (suc k)) (dtAt (m .schedule) (suc k))
-    (sqrtDtAt (m .schedule) (suc k))
+    step (m .kernel) (m .params) (stateAfter w k) (w .draw (suc k)) (dtAt (m .grid) (suc k))
+    (sqrtDtAt (m .grid) (suc k))
 
 -- Rule 7.6: the step at which a path stops, and what is not finite there
 pub record Stop : Type 0 where
@@ -55,4 +55,4 @@ pub record Sound (m : Simulation) (s : State) : Type 0 where
   pub z : finite (s .z) ≡ true
   pub variance : finite (s .variance) ≡ true
   pub factor : (i : ℕ) → i < m .kernel .n → finite (getD (s .factors) i nan) ≡ true
-  pub at-least-c : le (m .raw .c) (s .variance) ≡ true
+  pub at-least-c : le (m .params .c) (s .variance) ≡ true

@@ -12,9 +12,9 @@ pub struct Kernel {
     pub discounts: [f64; 10],
 }
 
-// The parameters as given.
+// The model as given: its parameters and the initial factors.
 #[repr(C)]
-pub struct Params {
+pub struct Model {
     pub a: Decimal,
     pub b: Decimal,
     pub c: Decimal,
@@ -26,7 +26,7 @@ pub struct Params {
 }
 
 // The parameters as converted.
-pub struct RawParams {
+pub struct Params {
     pub a: f64,
     pub b: f64,
     pub c: f64,
@@ -51,13 +51,13 @@ pub struct Segment {
 
 // A schedule as given: its segments, in the first `count` places.
 #[repr(C)]
-pub struct Segments {
+pub struct Schedule {
     pub count: usize,
     pub segments: [Segment; 64],
 }
 
 // A schedule as converted, with the last step of each segment, in the first `count` places.
-pub struct Schedule {
+pub struct TimeGrid {
     pub count: usize,
     pub total: usize,
     pub dt: [f64; 64],
@@ -78,10 +78,10 @@ pub struct Rates {
     pub divisors: [f64; 10],
 }
 
-// What every path shares: kernel, parameters, start and schedule.
+// What every path shares: kernel, parameters, start and time grid.
 pub struct Simulation {
     pub kernel: Kernel,
-    pub raw: RawParams,
+    pub params: Params,
     pub start: State,
-    pub schedule: Schedule,
+    pub grid: TimeGrid,
 }

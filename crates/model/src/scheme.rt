@@ -8,10 +8,10 @@ ghost use Rattle.model.specs.Inner.InUse.{kernelInUse, stateInUse};
 ghost use Rattle.model.specs.Inner.Rates.{RatesOf, Moved};
 use crate::Finiteness;
 use crate::Kernel;
+use crate::Params;
 use crate::Rates;
-use crate::RawParams;
-use crate::Schedule;
 use crate::State;
+use crate::TimeGrid;
 use refusal::Quantity;
 
 // The sum of weight × factor, in index order, begun at -0.0.
@@ -28,7 +28,7 @@ fn weighted_sum(n: usize, weights: &[f64], factors: &[f64]) -> f64
     sum
 }
 
-pub fn variance_at(p: RawParams, z: f64) -> f64
+pub fn variance_at(p: Params, z: f64) -> f64
     ensures { λ r. ⌜ r ≡ varianceAt p z ⌝ }
 {
     let shifted = z - p.b;
@@ -36,7 +36,7 @@ pub fn variance_at(p: RawParams, z: f64) -> f64
 }
 
 // The state with this spot and these factors.
-pub fn read(k: Kernel, p: RawParams, spot: f64, factors: [f64; 10]) -> State
+pub fn read(k: Kernel, p: Params, spot: f64, factors: [f64; 10]) -> State
     requires { ⌜ k .n ≤ 10 ⌝ }
     ensures { λ r. ⌜ stateInUse (k .n) r ≡ read (kernelInUse k) p spot (take (k .n) factors) ⌝ }
 {
@@ -71,7 +71,7 @@ pub fn rates_of(k: Kernel, dt: f64, sqrt_dt: f64) -> Rates
 }
 
 // The rates of a segment, counted from 0; past the 64th, where there is none, of NaNs.
-pub fn rates_at(k: Kernel, sched: Schedule, segment: usize) -> Rates
+pub fn rates_at(k: Kernel, sched: TimeGrid, segment: usize) -> Rates
     requires { ⌜ k .n ≤ 10 ⌝ }
     ensures { λ r. ⌜ RatesOf k (getD (sched .dt) segment nan)
         (getD (sched .«sqrt_dt») segment nan) r ⌝ }
@@ -97,7 +97,7 @@ fn move_factors(n: usize, factors: &[f64], forcing: f64, divisors: &[f64]) -> [f
 }
 
 // One step of the scheme, on the draw g.
-pub fn step(k: Kernel, p: RawParams, s: State, g: f64, rates: Rates) -> State
+pub fn step(k: Kernel, p: Params, s: State, g: f64, rates: Rates) -> State
     requires { ⌜ k .n ≤ 10 ⌝ }
     requires { ⌜ RatesOf k (rates .dt) (rates .«sqrt_dt») rates ⌝ }
     ensures { λ r. ⌜ stateInUse (k .n) r

@@ -46,7 +46,7 @@ module _ {b : Batch} {payoff : Payoff} {lent seen : List Float} {steps np path :
       ap (runStop b) e ∙ run-goes b (path + m) (going m (omega arith)) (w .going m (omega arith))
 
   abbrev count : ℕ
-  count = b .simulation .schedule .count
+  count = b .simulation .grid .count
 
   -- the last entries of the rows are what the paths show the payoff
   module _ (long : 4 * count ≤ length rows) (some : 1 ≤ count) where
@@ -78,12 +78,12 @@ module _ {b : Batch} {payoff : Payoff} {lent seen : List Float} {steps np path :
         subst (λ (x : ℕ). getD seen′ (x * count + j) nan ≡ observation b (suc x) (suc j)) e
         (ap (λ (x : ℕ). getD seen′ x nan) (ap (λ (x : ℕ). x + j) (add-mul path i count) ∙ add-assoc (path * count) (i * count) j) ∙ cell i j (omega arith) m)
 
-    pub path-four : (steps′ np′ : ℕ) (sums′ : Tally) → steps′ ≡ steps + 4 * b .simulation .schedule .total → np′ ≡ np + low → sums′ ≡ tallyOf payoff (underlyingIn b) (path + 4) → Outer b payoff lent seen′ steps′ np′ (path + 4) sums′
+    pub path-four : (steps′ np′ : ℕ) (sums′ : Tally) → steps′ ≡ steps + 4 * b .simulation .grid .total → np′ ≡ np + low → sums′ ≡ tallyOf payoff (underlyingIn b) (path + 4) → Outer b payoff lent seen′ steps′ np′ (path + 4) sums′
     path-four steps′ np′ sums′ s n sum =
         record {
           most = h;
           going = going 4 (omega arith);
-          counted = omega (arith, s, o .counted, add-mul path 4 (b .simulation .schedule .total));
+          counted = omega (arith, s, o .counted, add-mul path 4 (b .simulation .grid .total));
           fallen = n ∙ ap (λ (x : ℕ). x + low) (o .fallen) ∙ sym (w .fallen);
           few = omega (arith, n, o .few, w .few);
           tallied = sum;

@@ -28,9 +28,9 @@ pub rows-tallied :
     (b : Batch) (payoff : Payoff) (path : ℕ) {t : Tally} (rows : List Float) (n : ℕ)
     → t ≡ tallyOf payoff (underlyingIn b) path
     → ((l : ℕ) → l < n
-    → lastObservation rows (b .simulation .schedule .count) (suc l)
-    ≡ observation b (suc (path + l)) (b .simulation .schedule .count))
-    → withRows t payoff (b .observed) rows (b .simulation .schedule .count) n
+    → lastObservation rows (b .simulation .grid .count) (suc l)
+    ≡ observation b (suc (path + l)) (b .simulation .grid .count))
+    → withRows t payoff (b .observed) rows (b .simulation .grid .count) n
     ≡ tallyOf payoff (underlyingIn b) (path + n)
 unfolding withRows tallyOf
 rows-tallied b payoff path rows zero before same =

@@ -16,7 +16,7 @@ use Rattle.refusal.specs.declared.Quantity.{Quantity}
 use Rattle.model.specs.declared.State.{State}
 use Rattle.model.specs.declared.Finiteness.the-variants.{Finite, NonFinite}
 use Rattle.model.specs.Step.{step, finiteness}
-use Rattle.model.specs.Schedule.{lastStep, dtAt, sqrtDtAt}
+use Rattle.model.specs.TimeGrid.{lastStep, dtAt, sqrtDtAt}
 use Rattle.model.specs.Inner.Laid.{Laid}
 use Rattle.model.specs.First.{firstSome}
 use Rattle.model.specs.Walk.{stateAfter, stopWithin}
@@ -36,30 +36,31 @@ use Rattle.walks.proofs.Cells.{row-below, row-last, Filled, filled-none, filled
 use Rattle.paths.proofs.Tallying.{rows-tallied}
 use Rattle.paths.proofs.Stops.{runStopAt, run-goes, run-stops, run-none, run-path, entry-new, entry-run, entry-path}
 
--- at the head of the inner loop: `at` steps of path `path` + 1 are walked, and its row is filled up to `segment`
+-- at the head of the inner loop: `at` steps of path `path` + 1 are walked, and its row is filled up
+-- to `segment`
 pub record Inner (b : Batch) (path : ℕ) (seen₀ seen : List Float) (steps segment at : ℕ) (s : State) (low : Bool) : Type 0 where
-  pub most : at ≤ b .simulation .schedule .total
-  pub reached : Reached (b .simulation .schedule) segment at
+  pub most : at ≤ b .simulation .grid .total
+  pub reached : Reached (b .simulation .grid) segment at
   pub state : s ≡ stateAfter (walkOf b (suc path)) at
   pub fallen : low ≡ nonPositiveBy (walkOf b (suc path)) at
   pub going : stopWithin (walkOf b (suc path)) at ≡ none
-  pub counted : steps ≡ path * b .simulation .schedule .total + at
-  pub long : length seen ≡ b .paths * b .simulation .schedule .count
-  pub filled : Filled seen₀ seen (path * b .simulation .schedule .count) segment (λ j. observation b (suc path) (suc j))
+  pub counted : steps ≡ path * b .simulation .grid .total + at
+  pub long : length seen ≡ b .paths * b .simulation .grid .count
+  pub filled : Filled seen₀ seen (path * b .simulation .grid .count) segment (λ j. observation b (suc path) (suc j))
 
--- at the head of the outer loop: `path` paths are walked to the end, their rows are filled, and what
--- they show the payoff is added
+-- at the head of the outer loop: `path` paths are walked to the end, their rows are filled, and
+-- what they show the payoff is added
 pub record Outer (b : Batch) (payoff : Payoff) (lent seen : List Float) (steps low path : ℕ)
     (sums : Tally) : Type 0 where
   pub most : path ≤ b .paths
   pub going : runStop b path ≡ none
-  pub counted : steps ≡ path * b .simulation .schedule .total
+  pub counted : steps ≡ path * b .simulation .grid .total
   pub fallen : low ≡ nonPositivePaths b path
   pub few : low ≤ path
   pub tallied : sums ≡ tallyOf payoff (underlyingIn b) path
-  pub long : length seen ≡ b .paths * b .simulation .schedule .count
-  pub done : (q j : ℕ) → q < path → j < b .simulation .schedule .count → getD seen (q * b .simulation .schedule .count + j) nan ≡ observation b (suc q) (suc j)
-  pub rest : (x : ℕ) → path * b .simulation .schedule .count ≤ x → getD seen x nan ≡ getD lent x nan
+  pub long : length seen ≡ b .paths * b .simulation .grid .count
+  pub done : (q j : ℕ) → q < path → j < b .simulation .grid .count → getD seen (q * b .simulation .grid .count + j) nan ≡ observation b (suc q) (suc j)
+  pub rest : (x : ℕ) → path * b .simulation .grid .count ≤ x → getD seen x nan ≡ getD lent x nan
 
 -- the numbers of a turn are small
 pub record Small (paths path total count segment at : ℕ) : Type 0 where
@@ -71,21 +72,21 @@ pub record Small (paths path total count segment at : ℕ) : Type 0 where
   pub at-small : at < 4096
   pub segment-small : segment < 64
 
-module _ {b : Batch} (ok : Laid (b .simulation .schedule)) {path : ℕ} {seen₀ seen : List Float} {steps segment at : ℕ} {s : State} {low : Bool} (h : Inner b path seen₀ seen steps segment at s low) where
-  pub small : b .paths ≤ 65536 → path < b .paths → at < b .simulation .schedule .total → Small (b .paths) path (b .simulation .schedule .total) (b .simulation .schedule .count) segment at
+module _ {b : Batch} (ok : Laid (b .simulation .grid)) {path : ℕ} {seen₀ seen : List Float} {steps segment at : ℕ} {s : State} {low : Bool} (h : Inner b path seen₀ seen steps segment at s low) where
+  pub small : b .paths ≤ 65536 → path < b .paths → at < b .simulation .grid .total → Small (b .paths) path (b .simulation .grid .total) (b .simulation .grid .count) segment at
   small f p k =
-      let g : segment < b .simulation .schedule .count = reached-open (b .simulation .schedule) ok segment at (h .reached) k in
+      let g : segment < b .simulation .grid .count = reached-open (b .simulation .grid) ok segment at (h .reached) k in
       record {
-        step = row-below path (b .paths) (b .simulation .schedule .total) at p k;
+        step = row-below path (b .paths) (b .simulation .grid .total) at p k;
         steps = mul-le-mul f (ok .short);
-        entry = row-below path (b .paths) (b .simulation .schedule .count) segment p g;
+        entry = row-below path (b .paths) (b .simulation .grid .count) segment p g;
         entries = mul-le-mul f (ok .few);
         path-small = omega arith;
         at-small = omega (arith, ok .short);
         segment-small = omega (arith, ok .few);
       }
 
-  module _ (k : at < b .simulation .schedule .total) {s′ : State} (e : s′ ≡ step (b .simulation .kernel) (b .simulation .raw) s (b .draw (suc path) (suc at)) (dtAt (b .simulation .schedule) (suc at)) (sqrtDtAt (b .simulation .schedule) (suc at))) where
+  module _ (k : at < b .simulation .grid .total) {s′ : State} (e : s′ ≡ step (b .simulation .kernel) (b .simulation .params) s (b .draw (suc path) (suc at)) (dtAt (b .simulation .grid) (suc at)) (sqrtDtAt (b .simulation .grid) (suc at))) where
     pub next-state : s′ ≡ stateAfter (walkOf b (suc path)) (suc at)
     unfolding stateAfter
     next-state = e ∙ rw (h .state)
@@ -99,12 +100,12 @@ module _ {b : Batch} (ok : Laid (b .simulation .schedule)) {path : ℕ} {seen₀
       next-low = rw add-one (l ∙ rw (h .fallen, next-state))
 
       -- a step that ends no segment
-      pub turn-on : (at + 1 ≡ lastStep (b .simulation .schedule) (suc segment) → ⊥) → Inner b path seen₀ seen (steps + 1) segment (at + 1) s′ low′
+      pub turn-on : (at + 1 ≡ lastStep (b .simulation .grid) (suc segment) → ⊥) → Inner b path seen₀ seen (steps + 1) segment (at + 1) s′ low′
       turn-on ne =
-          let here : segment < b .simulation .schedule .count = reached-open (b .simulation .schedule) ok segment at (h .reached) k in
+          let here : segment < b .simulation .grid .count = reached-open (b .simulation .grid) ok segment at (h .reached) k in
           record {
             most = omega arith;
-            reached = reached-on (b .simulation .schedule) ok segment at (h .reached) here ne;
+            reached = reached-on (b .simulation .grid) ok segment at (h .reached) here ne;
             state = rw add-one next-state;
             fallen = next-low;
             going = next-going;
@@ -114,55 +115,55 @@ module _ {b : Batch} (ok : Laid (b .simulation .schedule)) {path : ℕ} {seen₀
           }
 
       -- a step that ends a segment, whose entry is written
-      pub turn-write : path < b .paths → at + 1 ≡ lastStep (b .simulation .schedule) (suc segment) → {v : Float} → v ≡ b .observe s′ → Inner b path seen₀ (set seen (path * b .simulation .schedule .count + segment) v) (steps + 1) (segment + 1) (at + 1) s′ low′
+      pub turn-write : path < b .paths → at + 1 ≡ lastStep (b .simulation .grid) (suc segment) → {v : Float} → v ≡ b .observe s′ → Inner b path seen₀ (set seen (path * b .simulation .grid .count + segment) v) (steps + 1) (segment + 1) (at + 1) s′ low′
       unfolding observation
       turn-write p q {v} w =
-          let here : segment < b .simulation .schedule .count = reached-open (b .simulation .schedule) ok segment at (h .reached) k in
-          let q′ : suc at ≡ lastStep (b .simulation .schedule) (suc segment) = rw add-one at q in
+          let here : segment < b .simulation .grid .count = reached-open (b .simulation .grid) ok segment at (h .reached) k in
+          let q′ : suc at ≡ lastStep (b .simulation .grid) (suc segment) = rw add-one at q in
           record {
             most = omega arith;
-            reached = reached-next (b .simulation .schedule) ok segment at (h .reached) here q;
+            reached = reached-next (b .simulation .grid) ok segment at (h .reached) here q;
             state = rw add-one next-state;
             fallen = next-low;
             going = next-going;
             counted = omega arith;
             long = rw length-set (h .long);
             filled =
-                filled-more seen₀ (path * b .simulation .schedule .count) _ seen segment v (h .filled)
-                (rw (h .long) (row-below path (b .paths) (b .simulation .schedule .count) segment p here))
+                filled-more seen₀ (path * b .simulation .grid .count) _ seen segment v (h .filled)
+                (rw (h .long) (row-below path (b .paths) (b .simulation .grid .count) segment p here))
                 (w ∙ ap (b .observe) (next-state ∙ ap (stateAfter (walkOf b (suc path))) q′));
           }
 
 -- the inner loop begins
-pub turn-first : {b : Batch} → Laid (b .simulation .schedule) → {path : ℕ} {seen : List Float} {steps : ℕ} → steps ≡ path * b .simulation .schedule .total → length seen ≡ b .paths * b .simulation .schedule .count → Inner b path seen seen steps 0 0 (b .simulation .start) false
+pub turn-first : {b : Batch} → Laid (b .simulation .grid) → {path : ℕ} {seen : List Float} {steps : ℕ} → steps ≡ path * b .simulation .grid .total → length seen ≡ b .paths * b .simulation .grid .count → Inner b path seen seen steps 0 0 (b .simulation .start) false
 unfolding stateAfter nonPositiveBy stopWithin firstSome
 turn-first {b} ok {path} {seen} e g =
     record {
       most = omega arith;
-      reached = reached-none (b .simulation .schedule) ok;
+      reached = reached-none (b .simulation .grid) ok;
       state = refl;
       fallen = refl;
       going = refl;
       counted = omega arith;
       long = g;
-      filled = filled-none seen (path * b .simulation .schedule .count) _;
+      filled = filled-none seen (path * b .simulation .grid .count) _;
     }
 
 -- a path that is walked to its end leaves each of its entries written
-entry-done : (b : Batch) → Laid (b .simulation .schedule) → (q n j : ℕ) → q < n → runStop b n ≡ none → j < b .simulation .schedule .count → (x : Float) → entryAfter b (suc q) (suc j) x ≡ observation b (suc q) (suc j)
+entry-done : (b : Batch) → Laid (b .simulation .grid) → (q n j : ℕ) → q < n → runStop b n ≡ none → j < b .simulation .grid .count → (x : Float) → entryAfter b (suc q) (suc j) x ≡ observation b (suc q) (suc j)
 entry-done b ok q n j k e l x =
     entry-new b q (suc j) x (run-none b q n (omega arith) e)
-    (stop-none (walkOf b (suc q)) _ (b .simulation .schedule .total) (last-most (b .simulation .schedule) ok (suc j) l) (run-path b q n k e))
+    (stop-none (walkOf b (suc q)) _ (b .simulation .grid .total) (last-most (b .simulation .grid) ok (suc j) l) (run-path b q n k e))
 
-module _ {b : Batch} {payoff : Payoff} (ok : Laid (b .simulation .schedule)) {lent : List Float} where
+module _ {b : Batch} {payoff : Payoff} (ok : Laid (b .simulation .grid)) {lent : List Float} where
   -- the outer loop begins
-  pub path-first : length lent ≡ b .paths * b .simulation .schedule .count → {sums : Tally} → sums ≡ noPaths → Outer b payoff lent lent 0 0 0 sums
+  pub path-first : length lent ≡ b .paths * b .simulation .grid .count → {sums : Tally} → sums ≡ noPaths → Outer b payoff lent lent 0 0 0 sums
   unfolding runStop nonPositivePaths firstSome tallyOf
   path-first g e =
       record {
         most = omega arith;
         going = refl;
-        counted = sym (zero-mul (b .simulation .schedule .total));
+        counted = sym (zero-mul (b .simulation .grid .total));
         fallen = refl;
         few = omega arith;
         tallied = e;
@@ -173,24 +174,24 @@ module _ {b : Batch} {payoff : Payoff} (ok : Laid (b .simulation .schedule)) {le
 
   module _ {seen₀ : List Float} {steps₀ np path : ℕ} {sums : Tally} (o : Outer b payoff lent seen₀ steps₀ np path sums) (p : path < b .paths) {seen : List Float} {steps segment at : ℕ} {s : State} {low : Bool} (h : Inner b path seen₀ seen steps segment at s low) where
     -- the rows of the paths before are kept
-    kept : (q j : ℕ) → q < path → j < b .simulation .schedule .count → getD seen (q * b .simulation .schedule .count + j) nan ≡ observation b (suc q) (suc j)
-    kept q j k l = h .filled .before _ (row-below q path (b .simulation .schedule .count) j k l) ∙ o .done q j k l
+    kept : (q j : ℕ) → q < path → j < b .simulation .grid .count → getD seen (q * b .simulation .grid .count + j) nan ≡ observation b (suc q) (suc j)
+    kept q j k l = h .filled .before _ (row-below q path (b .simulation .grid .count) j k l) ∙ o .done q j k l
 
     -- a path walked to its end
     -- its row
-    row-done : b .simulation .schedule .total ≤ at → (j : ℕ) → j < b .simulation .schedule .count → getD seen (path * b .simulation .schedule .count + j) nan ≡ observation b (suc path) (suc j)
-    row-done k j l = h .filled .new j (omega (arith, reached-shut (b .simulation .schedule) ok segment at (h .reached) k))
+    row-done : b .simulation .grid .total ≤ at → (j : ℕ) → j < b .simulation .grid .count → getD seen (path * b .simulation .grid .count + j) nan ≡ observation b (suc path) (suc j)
+    row-done k j l = h .filled .new j (omega (arith, reached-shut (b .simulation .grid) ok segment at (h .reached) k))
 
     abbrev row : List Float
-    row = take (path * b .simulation .schedule .count + b .simulation .schedule .count - path * b .simulation .schedule .count) (drop (path * b .simulation .schedule .count) seen)
+    row = take (path * b .simulation .grid .count + b .simulation .grid .count - path * b .simulation .grid .count) (drop (path * b .simulation .grid .count) seen)
 
-    row-fits : path * b .simulation .schedule .count + b .simulation .schedule .count ≤ length seen
-    row-fits = rw (h .long) (row-last path (b .paths) (b .simulation .schedule .count) (b .simulation .schedule .count) p (omega arith))
+    row-fits : path * b .simulation .grid .count + b .simulation .grid .count ≤ length seen
+    row-fits = rw (h .long) (row-last path (b .paths) (b .simulation .grid .count) (b .simulation .grid .count) p (omega arith))
 
     -- what it shows the payoff is added
-    pub path-tallied : b .simulation .schedule .total ≤ at → {r : Tally} → r ≡ withRows sums payoff (b .observed) row (b .simulation .schedule .count) (length row / b .simulation .schedule .count) → r ≡ tallyOf payoff (underlyingIn b) (path + 1)
+    pub path-tallied : b .simulation .grid .total ≤ at → {r : Tally} → r ≡ withRows sums payoff (b .observed) row (b .simulation .grid .count) (length row / b .simulation .grid .count) → r ≡ tallyOf payoff (underlyingIn b) (path + 1)
     path-tallied k e =
-        let count = b .simulation .schedule .count in
+        let count = b .simulation .grid .count in
         let base = path * count in
         let long : length row ≡ 1 * count = length-take-le (base + count - base) (drop base seen) (omega (arith, length-drop base seen, row-fits)) ∙ omega arith in
         let last : suc (pred count) ≡ count = omega (arith, ok .some) in
@@ -201,16 +202,16 @@ module _ {b : Batch} {payoff : Payoff} (ok : Laid (b .simulation .schedule)) {le
         e ∙ ap (withRows sums payoff (b .observed) row count) (ap (_/ count) long ∙ mul-div-cancel 1 (ok .some))
         ∙ rows-tallied b payoff path row 1 (o .tallied) (λ l m. let z : l ≡ 0 = omega arith in rw (z, add-zero path) shown)
 
-    pub path-next : b .simulation .schedule .total ≤ at → {np′ : ℕ} → np′ ≡ np + cond low 1 0 → {sums′ : Tally} → sums′ ≡ tallyOf payoff (underlyingIn b) (path + 1) → Outer b payoff lent seen steps np′ (path + 1) sums′
+    pub path-next : b .simulation .grid .total ≤ at → {np′ : ℕ} → np′ ≡ np + cond low 1 0 → {sums′ : Tally} → sums′ ≡ tallyOf payoff (underlyingIn b) (path + 1) → Outer b payoff lent seen steps np′ (path + 1) sums′
     unfolding nonPositivePaths
     path-next k e sum =
-        let t : at ≡ b .simulation .schedule .total = omega (arith, h .most) in
-        let g : segment ≡ b .simulation .schedule .count = reached-shut (b .simulation .schedule) ok segment at (h .reached) k in
-        let whole : (path + 1) * b .simulation .schedule .count ≡ path * b .simulation .schedule .count + b .simulation .schedule .count = rw add-one (suc-mul path (b .simulation .schedule .count)) in
+        let t : at ≡ b .simulation .grid .total = omega (arith, h .most) in
+        let g : segment ≡ b .simulation .grid .count = reached-shut (b .simulation .grid) ok segment at (h .reached) k in
+        let whole : (path + 1) * b .simulation .grid .count ≡ path * b .simulation .grid .count + b .simulation .grid .count = rw add-one (suc-mul path (b .simulation .grid .count)) in
         record {
           most = omega arith;
           going = rw add-one (run-goes b path (o .going) (subst (λ (n : ℕ). stopWithin (walkOf b (suc path)) n ≡ none) t (h .going)));
-          counted = rw add-one (omega (arith, suc-mul path (b .simulation .schedule .total)));
+          counted = rw add-one (omega (arith, suc-mul path (b .simulation .grid .total)));
           fallen = rw add-one (e ∙ rw (o .fallen, h .fallen ∙ ap (nonPositiveBy (walkOf b (suc path))) t));
           few = omega (arith, one-most low);
           tallied = sum;
@@ -223,12 +224,12 @@ module _ {b : Batch} {payoff : Payoff} (ok : Laid (b .simulation .schedule)) {le
         }
 
     -- a path that stops
-    module _ (k : at < b .simulation .schedule .total) {s′ : State} (e : s′ ≡ stateAfter (walkOf b (suc path)) (suc at)) {x : Quantity} (f : finiteness s′ ≡ NonFinite x) where
+    module _ (k : at < b .simulation .grid .total) {s′ : State} (e : s′ ≡ stateAfter (walkOf b (suc path)) (suc at)) {x : Quantity} (f : finiteness s′ ≡ NonFinite x) where
       stops : (n : ℕ) → at < n → stopWithin (walkOf b (suc path)) n ≡ some (stopAt (suc at) x)
       stops = stop-ends (walkOf b (suc path)) at x (h .going) (ap finiteness (sym e) ∙ f)
 
       run-stop : (n : ℕ) → path < n → runStop b n ≡ some (runStopAt (suc path) (stopAt (suc at) x))
-      run-stop = run-stops b path (stopAt (suc at) x) (o .going) (stops (b .simulation .schedule .total) k)
+      run-stop = run-stops b path (stopAt (suc at) x) (o .going) (stops (b .simulation .grid .total) k)
 
       pub run-ends : runAnswer b payoff ≡ Stopped (refusal.NonFinite (path + 1) (at + 1) x (steps + 1)) (steps + 1)
       unfolding runAnswer
@@ -236,30 +237,30 @@ module _ {b : Batch} {payoff : Payoff} (ok : Laid (b .simulation .schedule)) {le
           rw (run-stop (b .paths) p)
           (cc (add-one path, add-one at, the-steps))
         where
-          the-steps : path * b .simulation .schedule .total + suc at ≡ steps + 1
+          the-steps : path * b .simulation .grid .total + suc at ≡ steps + 1
           the-steps = omega (arith, h .counted)
 
       -- the row of the path that stops
-      here : (j : ℕ) → j < b .simulation .schedule .count → getD seen (path * b .simulation .schedule .count + j) nan ≡ entryAfter b (suc path) (suc j) (getD lent (path * b .simulation .schedule .count + j) nan)
+      here : (j : ℕ) → j < b .simulation .grid .count → getD seen (path * b .simulation .grid .count + j) nan ≡ entryAfter b (suc path) (suc j) (getD lent (path * b .simulation .grid .count + j) nan)
       here j l =
           ⊎-elim
           (λ (y : j < segment).
           h .filled .new j y
-          ∙ sym (entry-new b path (suc j) _ (o .going) (stop-none (walkOf b (suc path)) _ at (reached-behind (b .simulation .schedule) ok segment at (h .reached) j y) (h .going))))
+          ∙ sym (entry-new b path (suc j) _ (o .going) (stop-none (walkOf b (suc path)) _ at (reached-behind (b .simulation .grid) ok segment at (h .reached) j y) (h .going))))
           (λ (y : segment ≤ j).
           h .filled .after _ (omega arith) ∙ o .rest _ (omega arith)
-          ∙ sym (entry-path b path (suc j) _ (stopAt (suc at) x) (o .going) (stops _ (reached-ahead (b .simulation .schedule) ok segment at (h .reached) j y l))))
+          ∙ sym (entry-path b path (suc j) _ (stopAt (suc at) x) (o .going) (stops _ (reached-ahead (b .simulation .grid) ok segment at (h .reached) j y l))))
           (split j segment)
 
-      pub entries-end : (q j : ℕ) → q < b .paths → j < b .simulation .schedule .count → getD seen (q * b .simulation .schedule .count + j) nan ≡ entryAfter b (suc q) (suc j) (getD lent (q * b .simulation .schedule .count + j) nan)
+      pub entries-end : (q j : ℕ) → q < b .paths → j < b .simulation .grid .count → getD seen (q * b .simulation .grid .count + j) nan ≡ entryAfter b (suc q) (suc j) (getD lent (q * b .simulation .grid .count + j) nan)
       entries-end q j l m =
           ⊎-elim
           (λ (z : q < path). kept q j z m ∙ sym (entry-done b ok q path j z (o .going) m _))
           (λ (z : path ≤ q).
           ⊎-elim
           (λ (y : path < q).
-          h .filled .after _ (omega (arith, row-last path q (b .simulation .schedule .count) segment y (h .reached .most)))
-          ∙ o .rest _ (omega (arith, row-last path q (b .simulation .schedule .count) segment y (h .reached .most)))
+          h .filled .after _ (omega (arith, row-last path q (b .simulation .grid .count) segment y (h .reached .most)))
+          ∙ o .rest _ (omega (arith, row-last path q (b .simulation .grid .count) segment y (h .reached .most)))
           ∙ sym (entry-run b q (suc j) _ _ (run-stop q y)))
           (λ (y : q ≤ path). let e′ : q ≡ path = omega arith in rw e′ (here j m)) (split path q))
           (split q path)
@@ -271,11 +272,11 @@ module _ {b : Batch} {payoff : Payoff} (ok : Laid (b .simulation .schedule)) {le
     run-done =
         let t : path ≡ b .paths = omega (arith, o .most) in
         let goes : runStop b (b .paths) ≡ none = subst (λ (n : ℕ). runStop b n ≡ none) t (o .going) in
-        let all : b .paths * b .simulation .schedule .total ≡ steps = ap (_* b .simulation .schedule .total) (sym t) ∙ sym (o .counted) in
+        let all : b .paths * b .simulation .grid .total ≡ steps = ap (_* b .simulation .grid .total) (sym t) ∙ sym (o .counted) in
         let falls : nonPositivePaths b (b .paths) ≡ np = ap (nonPositivePaths b) (sym t) ∙ sym (o .fallen) in
         let sum : tallyOf payoff (underlyingIn b) (b .paths) ≡ sums = ap (tallyOf payoff (underlyingIn b)) (sym t) ∙ sym (o .tallied) in
         rw (goes, all, falls, sum)
 
-    pub entries-done : (q j : ℕ) → q < b .paths → j < b .simulation .schedule .count → getD seen (q * b .simulation .schedule .count + j) nan ≡ entryAfter b (suc q) (suc j) (getD lent (q * b .simulation .schedule .count + j) nan)
+    pub entries-done : (q j : ℕ) → q < b .paths → j < b .simulation .grid .count → getD seen (q * b .simulation .grid .count + j) nan ≡ entryAfter b (suc q) (suc j) (getD lent (q * b .simulation .grid .count + j) nan)
     entries-done q j l m =
         o .done q j (omega arith) m ∙ sym (entry-done b ok q path j (omega arith) (o .going) m _)

@@ -8,7 +8,7 @@ use lib.Ieee.{Float, nan}
 use Rattle.numeric.specs.Table.{tabulate}
 use Rattle.refusal.specs.declared.Refusal.{Refusal}
 use Rattle.refusal.specs.declared.Refusal.the-variants.{NonFinite}
-use Rattle.model.specs.Schedule.{lastStep}
+use Rattle.model.specs.TimeGrid.{lastStep}
 use Rattle.model.specs.First.{firstSome, orElse}
 use Rattle.model.specs.Walk.{Stop, stopWithin, unlessStopped}
 use Rattle.walks.specs.Batch.{Batch, walkOf, observation}
@@ -26,30 +26,30 @@ onPath p (some s) = some (record { path = p; stop = s })
 unfoldable pub runStop : Batch → ℕ → Option RunStop
 unfolding firstSome stopWithin
 runStop b n =
-    firstSome (λ p. onPath p (stopWithin (walkOf b p) (b .simulation .schedule .total))) n
+    firstSome (λ p. onPath p (stopWithin (walkOf b p) (b .simulation .grid .total))) n
 
 -- Rule 9.6: the steps taken, the failing one included
 abbrev pub stepsAt : Batch → RunStop → ℕ
-stepsAt b s = pred (s .path) * b .simulation .schedule .total + s .stop .step
+stepsAt b s = pred (s .path) * b .simulation .grid .total + s .stop .step
 
 -- Rule 9.8: a stop is 22
 abbrev pub refusalAt : Batch → RunStop → Refusal
 refusalAt b s = NonFinite (s .path) (s .stop .step) (s .stop .quantity) (stepsAt b s)
 
--- Rule 16.3: the observation of path p at the end of segment j where no earlier path stops, nor this
--- one up to the segment's last step; else what was lent
+-- Rule 16.3: the observation of path p at the end of segment j where no earlier path stops, nor
+-- this one up to the segment's last step; else what was lent
 unfoldable pub entryAfter : Batch → ℕ → ℕ → Float → Float
 unfolding runStop stopWithin observation
 entryAfter b p j lent =
     unlessStopped
     (orElse (runStop b (pred p))
-    (onPath p (stopWithin (walkOf b p) (lastStep (b .simulation .schedule) j))))
+    (onPath p (stopWithin (walkOf b p) (lastStep (b .simulation .grid) j))))
     (observation b p j) lent
 
 -- Rule 16.3: a row a path, a column a segment
 unfoldable pub tableAfter : Batch → List Float → List Float
 unfolding tabulate entryAfter
 tableAfter b lent =
-    let count = b .simulation .schedule .count in
+    let count = b .simulation .grid .count in
     tabulate (length lent)
     (λ x. entryAfter b (suc (x / count)) (suc (x % count)) (getD lent x nan))

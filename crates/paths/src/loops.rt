@@ -27,9 +27,9 @@ pub fn run_paths(batch: Batch, payoff: Payoff, draws: &[f64], observations: &mut
     let observed = observation.observed;
     let simulation = batch.simulation;
     let k = simulation.kernel;
-    let p = simulation.raw;
+    let p = simulation.params;
     let start = simulation.start;
-    let sched = simulation.schedule;
+    let sched = simulation.grid;
     let total = sched.total;
     let count = sched.count;
     let first = scheme::rates_at(k, sched, 0);

@@ -1,10 +1,11 @@
 // The outer calls, as C and Rust programs link them (include/qrh.h). An answer begins with its
-// number, 0 where the call is answered and else the refusal's, and its place, 0 where there is none.
+// number, 0 where the call is answered and else the refusal's, and its place, 0 where there is
+// none.
 use decimal::Converted;
 use decimal::Decimal;
 use exponentiation::Exponentiation;
-use model::Params;
-use model::Segments;
+use model::Model;
+use model::Schedule;
 use trace::Tracing;
 use vanilla::Estimate;
 use vix_batch::VixEstimate;
@@ -38,7 +39,8 @@ pub extern "C" fn qrh_convert(d: Decimal) -> Conversion
     ensures answer { λ r. ⌜ r ≡ conversion (convert d) ⌝ }
     ensures nearest { λ r. ⌜ ConvertsToNearest d (r .value) ⌝ }
 {
-    // Made first: an answer put together in each arm would be copied once more after the conversion.
+    // Made first: an answer put together in each arm would be copied once more after the
+    // conversion.
     let mut answer = Conversion {
         number: 0,
         place: [0; 4],
@@ -67,8 +69,8 @@ pub extern "C" fn qrh_sqrt(x: f64) -> f64
 pub extern "C" fn qrh_trace(
     weights: &[f64],
     discounts: &[f64],
-    model: Params,
-    schedule: Segments,
+    model: Model,
+    schedule: Schedule,
     draws: &[f64],
     spots: &mut [f64],
     variances: &mut [f64],
@@ -101,8 +103,8 @@ pub extern "C" fn qrh_trace(
 pub extern "C" fn qrh_vanilla(
     weights: &[f64],
     discounts: &[f64],
-    model: Params,
-    schedule: Segments,
+    model: Model,
+    schedule: Schedule,
     put: bool,
     strike: Decimal,
     paths: usize,
@@ -137,8 +139,8 @@ pub extern "C" fn qrh_vanilla(
 pub extern "C" fn qrh_mirrored(
     weights: &[f64],
     discounts: &[f64],
-    model: Params,
-    schedule: Segments,
+    model: Model,
+    schedule: Schedule,
     put: bool,
     strike: Decimal,
     paths: usize,
@@ -186,7 +188,7 @@ pub extern "C" fn qrh_exponential(
 pub extern "C" fn qrh_vix(
     weights: &[f64],
     discounts: &[f64],
-    model: Params,
+    model: Model,
     window: Decimal,
     given: Factors,
     workspace: &mut [f64],
@@ -203,8 +205,8 @@ pub extern "C" fn qrh_vix(
 pub extern "C" fn qrh_vix_batch(
     weights: &[f64],
     discounts: &[f64],
-    model: Params,
-    schedule: Segments,
+    model: Model,
+    schedule: Schedule,
     window: Decimal,
     payoff: VixPayoff,
     paths: usize,

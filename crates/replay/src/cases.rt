@@ -14,8 +14,8 @@ const MARK: u64 = 0x3145_5341_4348_5251;
 // The place of the first case. A case is laid out as a list is: the number of its words, and those.
 const FIRST: usize = 2;
 
-// What came of the cases of one call: how many there are, how many of them differed from the record,
-// and the first that did, counted from 1 over all cases of the file.
+// What came of the cases of one call: how many there are, how many of them differed from the
+// record, and the first that did, counted from 1 over all cases of the file.
 pub struct Tally {
     pub cases: u64,
     pub different: u64,
@@ -50,8 +50,8 @@ pub(crate) fn is_whole(file: &[u8]) -> bool {
     (file.len() % 8 == 0) & (file.len() / 8 == at)
 }
 
-// Runs a case whose inputs are at a place, and says whether its outcome is as recorded and ends where
-// the case does.
+// Runs a case whose inputs are at a place, and says whether its outcome is as recorded and ends
+// where the case does.
 fn is_same(file: &[u8], call: u64, at: usize, end: usize) -> bool {
     match call {
         1 => scalar::convert(file, at, end),

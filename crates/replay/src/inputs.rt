@@ -4,9 +4,9 @@ ghost use Prim.Native.Nat.{_+_, _≤_, _<_, min};
 use crate::words::after;
 use crate::words::word;
 use decimal::Decimal;
-use model::Params;
+use model::Model;
+use model::Schedule;
 use model::Segment;
-use model::Segments;
 
 // The words of the parameters of a model: six Decimals, a count, ten Decimals.
 const PARAMS: u64 = 33;
@@ -39,9 +39,9 @@ pub(crate) fn factors(file: &[u8], at: usize) -> [Decimal; 10] {
     factors
 }
 
-pub(crate) fn params(file: &[u8], at: usize) -> Params {
+pub(crate) fn params(file: &[u8], at: usize) -> Model {
     let factors = factors(file, after(at, 13));
-    Params {
+    Model {
         a: decimal(file, at),
         b: decimal(file, after(at, 2)),
         c: decimal(file, after(at, 4)),
@@ -81,14 +81,14 @@ fn segment(file: &[u8], at: usize, i: usize) -> Segment
     }
 }
 
-pub(crate) fn segments(file: &[u8], at: usize) -> Segments {
+pub(crate) fn segments(file: &[u8], at: usize) -> Schedule {
     let mut segments = [segment(file, at, 0); 64];
     let mut i: usize = 1;
     while i < 64 {
         segments[i] = segment(file, at, i);
         i += 1;
     }
-    Segments {
+    Schedule {
         count: size(file, at),
         segments: segments,
     }

@@ -1,6 +1,7 @@
 // Runs recorded cases, read from standard input, and compares every outcome with the recorded one:
-// doubles by their bits, numbers, places, counts and every entry of the lent tables. The records are
-// those of the Rust; oracle/README.md has the format, and `record write FILE --most 3` made them.
+// doubles by their bits, numbers, places, counts and every entry of the lent tables. The records
+// are those of the Rust; oracle/README.md has the format, and `record write FILE --most 3` made
+// them.
 ghost use mathlib.Core.Path.{_≡_};
 ghost use lib.ListN.{length};
 use libc::STDIN_FILENO;

@@ -65,7 +65,8 @@ pub(crate) fn lend(file: &[u8], at: usize, table: u64, out: &mut [f64]) -> usize
     n
 }
 
-// Whether the first doubles are as written at a place of the file, the rest being as before the call.
+// Whether the first doubles are as written at a place of the file, the rest being as before the
+// call.
 fn same_doubles(file: &[u8], at: usize, written: usize, table: u64, doubles: &[f64]) -> bool {
     let mut i: usize = 0;
     while i < doubles.len() {

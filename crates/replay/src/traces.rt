@@ -10,8 +10,8 @@ use crate::tables::same_table;
 use crate::tables::zeros;
 use crate::words::after;
 use crate::words::after_list;
-use model::Params;
-use model::Segments;
+use model::Model;
+use model::Schedule;
 use trace::Tracing;
 
 // Whether the four tables are as at a place of the file, and end there.
@@ -46,8 +46,8 @@ fn traced(
     end: usize,
     weights: &[f64],
     discounts: &[f64],
-    params: Params,
-    segments: Segments,
+    params: Model,
+    segments: Schedule,
     draws: &[f64],
 ) -> bool {
     let outcome_at = after(at, 4);
@@ -82,7 +82,7 @@ pub(crate) fn replay(
     end: usize,
     weights: &[f64],
     discounts: &[f64],
-    params: Params,
+    params: Model,
 ) -> bool {
     let draws_at = after_segments(file, at);
     let lengths_at = after_list(file, draws_at);

@@ -15,8 +15,8 @@ use crate::tables::zeros;
 use crate::words::after;
 use crate::words::after_list;
 use decimal::Decimal;
-use model::Params;
-use model::Segments;
+use model::Model;
+use model::Schedule;
 use vanilla::Estimate;
 
 // The call, in either form.
@@ -24,8 +24,8 @@ fn price(
     mirrored: bool,
     weights: &[f64],
     discounts: &[f64],
-    params: Params,
-    segments: Segments,
+    params: Model,
+    segments: Schedule,
     put: bool,
     strike: Decimal,
     paths: usize,
@@ -81,7 +81,7 @@ pub(crate) fn replay(
     mirrored: bool,
     weights: &[f64],
     discounts: &[f64],
-    params: Params,
+    params: Model,
 ) -> bool {
     let put_at = after_segments(file, at);
     let paths_at = after(put_at, 3);

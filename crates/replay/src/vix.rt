@@ -18,8 +18,8 @@ use crate::tables::zeros;
 use crate::words::after;
 use crate::words::after_list;
 use decimal::Decimal;
-use model::Params;
-use model::Segments;
+use model::Model;
+use model::Schedule;
 use vix_batch::VixEstimate;
 use vix_batch::VixPayoff;
 use vix_value::Factors;
@@ -46,7 +46,7 @@ pub(crate) fn evaluation(
     end: usize,
     weights: &[f64],
     discounts: &[f64],
-    params: Params,
+    params: Model,
 ) -> bool {
     let given_at = after(at, 2);
     let length_at = after(given_at, 21);
@@ -87,16 +87,16 @@ fn same_answer(file: &[u8], at: usize, answer: VixEstimate) -> bool {
         & same_counts(file, after(values_at, 4), &counts)
 }
 
-// The call, with a workspace and a table whose lengths are at a place of the file, its outcome after
-// them.
+// The call, with a workspace and a table whose lengths are at a place of the file, its outcome
+// after them.
 fn priced(
     file: &[u8],
     at: usize,
     end: usize,
     weights: &[f64],
     discounts: &[f64],
-    params: Params,
-    segments: Segments,
+    params: Model,
+    segments: Schedule,
     window: Decimal,
     payoff: VixPayoff,
     paths: usize,
@@ -135,7 +135,7 @@ pub(crate) fn batch(
     end: usize,
     weights: &[f64],
     discounts: &[f64],
-    params: Params,
+    params: Model,
 ) -> bool {
     let window_at = after_segments(file, at);
     let paths_at = after(window_at, 6);

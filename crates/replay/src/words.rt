@@ -1,5 +1,6 @@
-// A file of recorded cases (oracle/README.md) is a list of 64-bit words, each of 8 bytes, the lowest
-// first. Places in it are counted in words, from 0. Reading is total: past the end there are zeros.
+// A file of recorded cases (oracle/README.md) is a list of 64-bit words, each of 8 bytes, the
+// lowest first. Places in it are counted in words, from 0. Reading is total: past the end there are
+// zeros.
 ghost use mathlib.Core.Path.{_≡_};
 ghost use mathlib.Core.Bool.{true};
 ghost use lib.Ieee.{binary64, ofBits};

@@ -1,4 +1,5 @@
--- The schedule door's loop: what it has asked, converted and laid end to end after i segments. Assumes nothing.
+-- The schedule door's loop: what it has asked, converted and laid end to end after i segments.
+-- Assumes nothing.
 use mathlib.Core.Path.{_≡_, refl, sym, ap, subst, _∙_}
 use mathlib.Core.Bool.{and-eq-true-iff}
 use mathlib.Core.List.{List}
@@ -18,18 +19,18 @@ use Rattle.refusal.specs.declared.Refusal.the-variants.{Plain}
 use Rattle.refusal.specs.declared.Outcome.the-variants.{Passed, Refused}
 use Rattle.refusal.specs.Questions.{firstNo, each}
 use Rattle.refusal.proofs.Laws.{each-none, each-more, each-stops, each-passed, passed-head, passed-tail, never-both}
+use Rattle.model.specs.declared.TimeGrid.{TimeGrid}
+use Rattle.schedule.specs.declared.ScheduleAdmission.{ScheduleAdmission}
 use Rattle.model.specs.declared.Schedule.{Schedule}
-use Rattle.schedule.specs.declared.ScheduleDoor.{ScheduleDoor}
-use Rattle.model.specs.declared.Segments.{Segments}
-use Rattle.model.specs.Schedule.{segmentAt, stepsThrough, scheduleOf, lastStep}
-use Rattle.model.specs.Inner.InUse.{scheduleInUse}
+use Rattle.model.specs.TimeGrid.{segmentAt, stepsThrough, gridOf, lastStep}
+use Rattle.model.specs.Inner.InUse.{gridInUse}
 use Rattle.schedule.specs.Questions.{questionsOf, segmentQuestions, scheduleQuestions}
 use Rattle.model.specs.Inner.Laid.{Laid}
-use Rattle.schedule.specs.Inner.Door.{SchedulePrepared}
+use Rattle.schedule.specs.Inner.Admission.{SchedulePrepared}
 
-module _ (g : Segments) where
+module _ (g : Schedule) where
   -- a refusal prepares nothing
-  pub schedule-refused : (r : ScheduleDoor) (x : Refusal) → r .outcome ≡ Refused x → firstNo (scheduleQuestions g) ≡ Refused x → SchedulePrepared g r
+  pub schedule-refused : (r : ScheduleAdmission) (x : Refusal) → r .outcome ≡ Refused x → firstNo (scheduleQuestions g) ≡ Refused x → SchedulePrepared g r
   schedule-refused r x e f = record { outcome = e ∙ sym f; ready = λ p. absurd (never-both (r .outcome) x e p) }
 
   pub none-refused : g .count ≡ 0 → firstNo (scheduleQuestions g) ≡ Refused (Plain 11)
@@ -122,8 +123,8 @@ module _ (g : Segments) where
 
   -- all segments asked and laid
   module _ (dt roots : List Float) (last : List ℕ) (total i : ℕ) (before : Laying dt roots last total i) (end : i ≡ g .count) where
-    abbrev schedule : Schedule
-    schedule = record { count = g .count; total = total; dt = dt; «sqrt_dt» = roots; last = last }
+    abbrev grid : TimeGrid
+    grid = record { count = g .count; total = total; dt = dt; «sqrt_dt» = roots; last = last }
 
     all-passed : firstNo (each (segmentQuestions g) (g .count)) ≡ Passed
     all-passed = ap (λ (n : ℕ). firstNo (each (segmentQuestions g) n)) (sym end) ∙ before .passed
@@ -131,12 +132,12 @@ module _ (g : Segments) where
     total-whole : total ≡ stepsThrough g (g .count)
     total-whole = before .total-is ∙ ap (stepsThrough g) end
 
-    ends-at : (j : ℕ) → j ≤ g .count → lastStep schedule j ≡ stepsThrough g j
+    ends-at : (j : ℕ) → j ≤ g .count → lastStep grid j ≡ stepsThrough g j
     unfolding stepsThrough
     ends-at zero h = refl
     ends-at (suc j) h = before .last-is j (omega arith)
 
-    laid : Laid schedule
+    laid : Laid grid
     laid =
         record {
           some = before .some;
@@ -146,8 +147,8 @@ module _ (g : Segments) where
           ends = ends-at (g .count) (omega arith) ∙ sym total-whole;
         }
 
-    in-use : scheduleInUse schedule ≡ scheduleOf g
-    unfolding scheduleOf
+    in-use : gridInUse grid ≡ gridOf g
+    unfolding gridOf
     in-use =
         rw (
           total-whole,
@@ -156,7 +157,7 @@ module _ (g : Segments) where
           take-is-tabulate 0 (g .count) _ last (omega arith) (λ j h. before .last-is j (omega arith)),
         )
 
-    pub schedule-prepared : SchedulePrepared g (record { outcome = Passed; schedule = schedule })
+    pub schedule-prepared : SchedulePrepared g (record { outcome = Passed; grid = grid })
     schedule-prepared =
         record {
           outcome = sym (left (before .some) (before .few) ∙ all-passed);

@@ -7,9 +7,9 @@ use Rattle.decimal.specs.Decimal.{isPositive}
 use Rattle.refusal.specs.declared.Refusal.the-variants.{AtSegment}
 use Rattle.refusal.specs.Questions.{Question, ask, asked, each}
 use Rattle.model.specs.declared.Segment.{Segment}
-use Rattle.model.specs.declared.Segments.{Segments}
+use Rattle.model.specs.declared.Schedule.{Schedule}
 use Rattle.model.specs.Questions.{scaleQuestion}
-use Rattle.model.specs.Schedule.{segmentAt, stepsThrough}
+use Rattle.model.specs.TimeGrid.{segmentAt, stepsThrough}
 
 -- Rule 14.6: of segment i, with the steps up to its end: 13, its dt positive and its steps not 0;
 -- 14, at most 4,096 steps; 1 of its dt
@@ -20,11 +20,11 @@ questionsOf s i total =
     ∷ scaleQuestion (s .dt)
     ∷ []
 
-abbrev pub segmentQuestions : Segments → ℕ → List Question
+abbrev pub segmentQuestions : Schedule → ℕ → List Question
 segmentQuestions g i = questionsOf (segmentAt g i) i (stepsThrough g i)
 
 -- Rule 14.6: 11, one segment or more; 12, at most 64; then segment by segment
-unfoldable pub scheduleQuestions : Segments → List Question
+unfoldable pub scheduleQuestions : Schedule → List Question
 scheduleQuestions g =
     (asked 11 (leb 1 (g .count)) ∷ asked 12 (leb (g .count) 64) ∷ [])
     ++ each (segmentQuestions g) (g .count)

@@ -1,19 +1,19 @@
-// The door of the schedule: questions 11 and 12, then 13, 14 and 1 segment by segment (rule 14.6),
+// Admission of the schedule: questions 11 and 12, then 13, 14 and 1 segment by segment (rule 14.6),
 // and the schedule that is laid out of the segments given (6.2).
 ghost use mathlib.Core.Path.{_≡_};
 ghost use Rattle.refusal.specs.Questions.{firstNo};
 ghost use Rattle.schedule.specs.Questions.{questionsOf};
-ghost use Rattle.schedule.specs.Inner.Door.{SchedulePrepared};
+ghost use Rattle.schedule.specs.Inner.Admission.{SchedulePrepared};
 use model::Schedule;
 use model::Segment;
-use model::Segments;
+use model::TimeGrid;
 use refusal::Outcome;
 use refusal::Refusal;
 
 // What the questions came to and, where all passed, the schedule.
-pub struct ScheduleDoor {
+pub struct ScheduleAdmission {
     pub outcome: Outcome,
-    pub schedule: Schedule,
+    pub grid: TimeGrid,
 }
 
 // Questions 13, 14 and 1 of one segment, counted from 1, with the running total that includes it.
@@ -40,14 +40,14 @@ fn segment_questions(s: Segment, segment: u64, total: usize) -> Outcome
     refusal::ask(asked, Refusal::Plain(1), decimal::scale_fits(s.dt))
 }
 
-fn refused(refusal: Refusal) -> ScheduleDoor
+fn refused(refusal: Refusal) -> ScheduleAdmission
     ensures { λ r. ⌜ r .outcome ≡ Outcome.Refused refusal ⌝ }
 {
     let nothing = [0.0; 64];
     let never = [0usize; 64];
-    ScheduleDoor {
+    ScheduleAdmission {
         outcome: Outcome::Refused(refusal),
-        schedule: Schedule {
+        grid: TimeGrid {
             count: 0,
             total: 0,
             dt: nothing,
@@ -59,7 +59,7 @@ fn refused(refusal: Refusal) -> ScheduleDoor
 
 // The segments as converted and laid end to end. The running total is 4,096 at most before a step
 // count is added, so it never wraps.
-pub fn from_segments(g: Segments) -> ScheduleDoor
+pub fn from_segments(g: Schedule) -> ScheduleAdmission
     ensures { λ r. ⌜ SchedulePrepared g r ⌝ }
 {
     let count = g.count;
@@ -87,9 +87,9 @@ pub fn from_segments(g: Segments) -> ScheduleDoor
         last[i] = total;
         i += 1;
     }
-    ScheduleDoor {
+    ScheduleAdmission {
         outcome: Outcome::Passed,
-        schedule: Schedule {
+        grid: TimeGrid {
             count: count,
             total: total,
             dt: dt,

@@ -16,9 +16,9 @@ use Rattle.model.specs.declared.Simulation.{Simulation}
 use Rattle.model.specs.Simulation.{simulationOf}
 use Rattle.model.specs.Walk.{Walk}
 use Rattle.model.specs.Inner.InUse.{simulationInUse}
-use Rattle.doors.specs.declared.ModelDoor.{ModelDoor}
-use Rattle.doors.specs.Questions.{modelQuestions}
-use Rattle.doors.specs.Inner.Doors.{ModelPrepared}
+use Rattle.admission.specs.declared.ModelAdmission.{ModelAdmission}
+use Rattle.admission.specs.Questions.{modelQuestions}
+use Rattle.admission.specs.Inner.Admission.{ModelPrepared}
 use Rattle.trace.specs.declared.Traced.{Traced}
 use Rattle.trace.specs.declared.Tracing.{Tracing}
 use Rattle.trace.specs.Trace.{Tables, traceWalk, traceAnswer, tablesAfter}
@@ -53,14 +53,14 @@ module _ (i : TraceInputs) (lent : Tables) where
     refused-first f = record { answer = rw f e; tables = rw f refl }
 
     pub model-refused :
-        (door : ModelDoor) → ModelPrepared (i .given) door → door .outcome ≡ Refused x
+        (door : ModelAdmission) → ModelPrepared (i .given) door → door .outcome ≡ Refused x
         → TraceAnswered i lent lent r
     unfolding traceQuestions
     model-refused door prepared failed =
         refused-first (stops (modelQuestions (i .given)) _ x (sym (prepared .outcome) ∙ failed))
 
   module _
-      (door : ModelDoor)
+      (door : ModelAdmission)
       (prepared : ModelPrepared (i .given) door)
       (passed : door .outcome ≡ Passed)
     where
@@ -71,13 +71,13 @@ module _ (i : TraceInputs) (lent : Tables) where
       is-given = prepared .ready passed .in-use
 
       abbrev right : Bool
-      right = lengthsRight (s .schedule .total + 1) (s .kernel .n) (lengths lent)
+      right = lengthsRight (s .grid .total + 1) (s .kernel .n) (lengths lent)
 
       -- 20 and 21
       abbrev last : Simulation → List Question
       last m =
-          asked 20 (eqb (length (i .draws)) (m .schedule .total))
-          ∷ asked 21 (lengthsRight (m .schedule .total + 1) (m .kernel .n) (lengths lent))
+          asked 20 (eqb (length (i .draws)) (m .grid .total))
+          ∷ asked 21 (lengthsRight (m .grid .total + 1) (m .kernel .n) (lengths lent))
           ∷ []
 
       left : firstNo (traceQuestions i lent) ≡ firstNo (last s)
@@ -87,12 +87,12 @@ module _ (i : TraceInputs) (lent : Tables) where
           ∙ ap (λ (m : Simulation). firstNo (last m)) (sym is-given)
 
       pub draws-refused :
-          (r : Tracing) → r ≡ refused (Plain 20) → (length (i .draws) ≡ s .schedule .total → ⊥)
+          (r : Tracing) → r ≡ refused (Plain 20) → (length (i .draws) ≡ s .grid .total → ⊥)
           → TraceAnswered i lent lent r
       unfolding firstNo
       draws-refused r e other = refused-first (Plain 20) r e (left ∙ rw (ne-eqb _ _ other))
 
-      module _ (all : length (i .draws) ≡ s .schedule .total) where
+      module _ (all : length (i .draws) ≡ s .grid .total) where
         pub tables-refused :
             (r : Tracing) → r ≡ refused (Plain 21) → right ≡ false → TraceAnswered i lent lent r
         unfolding firstNo

@@ -12,15 +12,15 @@ use Rattle.refusal.specs.declared.Quantity.{Quantity}
 use Rattle.refusal.specs.declared.Quantity.the-variants.{Spot}
 use Rattle.model.specs.declared.Simulation.{Simulation}
 use Rattle.model.specs.declared.Kernel.{Kernel}
-use Rattle.model.specs.declared.RawParams.{RawParams}
+use Rattle.model.specs.declared.Params.{Params}
 use Rattle.model.specs.declared.State.{State}
 use Rattle.model.specs.declared.Rates.{Rates}
-use Rattle.model.specs.declared.Schedule.{Schedule}
+use Rattle.model.specs.declared.TimeGrid.{TimeGrid}
 use Rattle.model.specs.declared.Finiteness.the-variants.{Finite, NonFinite}
 use Rattle.model.specs.Step.{step, finiteness}
-use Rattle.model.specs.Schedule.{dtAt}
+use Rattle.model.specs.TimeGrid.{dtAt}
 use Rattle.model.specs.Walk.{Walk, stateAfter, stopWithin}
-use Rattle.model.specs.Inner.InUse.{kernelInUse, stateInUse, scheduleInUse, simulationInUse}
+use Rattle.model.specs.Inner.InUse.{kernelInUse, stateInUse, gridInUse, simulationInUse}
 use Rattle.model.specs.Inner.Rates.{RatesOf}
 use Rattle.model.specs.Inner.Laid.{Laid}
 use Rattle.model.proofs.Containment.{Reached, reached-none, reached-open, reached-next, reached-on}
@@ -34,7 +34,7 @@ use Rattle.trace.proofs.Points.{AllThrough, all-none, all-next, all-end
 
 -- a step with the draw that was taken
 pub at-draw :
-    (k : Kernel) (p : RawParams) (s : State) (dt root : Float) {g g′ : Float} {s′ : State} → g ≡ g′
+    (k : Kernel) (p : Params) (s : State) (dt root : Float) {g g′ : Float} {s′ : State} → g ≡ g′
     → s′ ≡ step k p s g dt root → s′ ≡ step k p s g′ dt root
 at-draw k p s dt root drawn e = e ∙ ap (λ (d : Float). step k p s d dt root) drawn
 
@@ -44,8 +44,8 @@ walkIn m draws = traceWalk (simulationInUse m) draws
 -- what is known of the simulation and of the lent tables
 pub record Prepared (m : Simulation) (lent : Tables) : Type 0 where
   pub one : 1 ≤ m .kernel .n
-  pub laid : Laid (m .schedule)
-  pub size : Sized (m .schedule .total) (m .kernel .n) lent
+  pub laid : Laid (m .grid)
+  pub size : Sized (m .grid .total) (m .kernel .n) lent
 
 module _ (m : Simulation) (draws : List Float) (lent : Tables) where
   abbrev w : Walk
@@ -54,8 +54,8 @@ module _ (m : Simulation) (draws : List Float) (lent : Tables) where
   abbrev n : ℕ
   n = m .kernel .n
 
-  abbrev sc : Schedule
-  sc = m .schedule
+  abbrev sc : TimeGrid
+  sc = m .grid
 
   abbrev total : ℕ
   total = sc .total
@@ -129,17 +129,17 @@ module _ (m : Simulation) (draws : List Float) (lent : Tables) where
             (s′ : State)
             (e :
             stateInUse n s′
-            ≡ step (kernelInUse (m .kernel)) (m .raw) (stateInUse n s) (getD draws at nan)
+            ≡ step (kernelInUse (m .kernel)) (m .params) (stateInUse n s) (getD draws at nan)
             (rates .dt) (rates .«sqrt_dt»))
           where
             abbrev stepped : State → Float → Float → State
             stepped x dt root =
-                step (kernelInUse (m .kernel)) (m .raw) x (getD draws at nan) dt root
+                step (kernelInUse (m .kernel)) (m .params) x (getD draws at nan) dt root
 
             inside : segment < sc .count
             inside = reached-open sc (prepared .laid) segment at (h .reached) b
 
-            dt-here : rates .dt ≡ dtAt (scheduleInUse sc) (suc at)
+            dt-here : rates .dt ≡ dtAt (gridInUse sc) (suc at)
             dt-here =
                 h .rated .dt-is
                 ∙ sym (dt-reached sc (prepared .laid) segment at (h .reached) inside)
@@ -149,7 +149,7 @@ module _ (m : Simulation) (draws : List Float) (lent : Tables) where
             next-state =
                 e ∙ ap (λ (x : State). stepped x (rates .dt) (rates .«sqrt_dt»)) (h .state)
                 ∙ ap (λ (d : Float). stepped (stateAfter w at) d (rates .«sqrt_dt»)) dt-here
-                ∙ ap (stepped (stateAfter w at) (dtAt (scheduleInUse sc) (suc at)))
+                ∙ ap (stepped (stateAfter w at) (dtAt (gridInUse sc) (suc at)))
                 (h .rated .sqrt-dt-is
                 ∙ sym (sqrt-dt-reached sc (prepared .laid) segment at (h .reached) inside))
 

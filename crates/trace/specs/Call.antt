@@ -9,11 +9,11 @@ use lib.Ieee.{Float}
 use Rattle.refusal.specs.declared.Refusal.{Refusal}
 use Rattle.refusal.specs.Refusal.{quantityNumber, numberOf, noPlace, placeOf}
 use Rattle.refusal.specs.Questions.{Question, asked, firstNo, onceAsked, writtenOnceAsked}
-use Rattle.model.specs.Schedule.{scheduleOf}
+use Rattle.model.specs.TimeGrid.{gridOf}
 use Rattle.model.specs.Parameters.{startOf}
 use Rattle.model.specs.Simulation.{Given, simulationOf}
 use Rattle.model.specs.Walk.{Walk}
-use Rattle.doors.specs.Questions.{modelQuestions}
+use Rattle.admission.specs.Questions.{modelQuestions}
 use Rattle.trace.specs.declared.Traced.{Traced}
 use Rattle.trace.specs.declared.Traced.the-variants.{Done, NonFinite}
 use Rattle.trace.specs.declared.Lengths.{Lengths}
@@ -53,10 +53,10 @@ lengthsRight points n lent =
 
 -- Rule 15.2: those of the model; 20, a draw a step; 21, the lent tables as long as N + 1 points are
 unfoldable pub traceQuestions : TraceInputs → Tables → List Question
-unfolding modelQuestions startOf scheduleOf
+unfolding modelQuestions startOf gridOf
 traceQuestions i lent =
     let s = simulationOf (i .given) in
-    let steps = s .schedule .total in
+    let steps = s .grid .total in
     modelQuestions (i .given)
     ++ (asked 20 (eqb (length (i .draws)) steps)
     ∷ asked 21 (lengthsRight (steps + 1) (s .kernel .n) (lengths lent))
@@ -77,13 +77,13 @@ refused refusal = record { number = numberOf refusal; place = placeOf refusal; s
 
 -- Rule 15.2: the refusal of its first No; where there is none, what the walk comes to
 unfoldable pub traceCall : TraceInputs → Tables → Tracing
-unfolding traceQuestions traceAnswer startOf scheduleOf
+unfolding traceQuestions traceAnswer startOf gridOf
 traceCall i lent =
     onceAsked (firstNo (traceQuestions i lent)) refused (answered (traceAnswer (walkOf i)))
 
 -- Rule 16.2: its tables after it
 unfoldable pub traceTables : TraceInputs → Tables → Tables
-unfolding traceQuestions startOf scheduleOf
+unfolding traceQuestions startOf gridOf
 traceTables i lent =
     writtenOnceAsked (firstNo (traceQuestions i lent)) lent
     (tablesAfter (walkOf i) lent)

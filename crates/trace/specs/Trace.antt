@@ -23,7 +23,7 @@ answerOf total (some stop) = NonFinite (stop .step) (stop .quantity)
 
 unfoldable pub traceAnswer : Walk → Traced
 unfolding stopWithin
-traceAnswer w = let total = w .simulation .schedule .total in answerOf total (stopWithin w total)
+traceAnswer w = let total = w .simulation .grid .total in answerOf total (stopWithin w total)
 
 -- Rule 8.3: spots, variances and z have an entry a point, factors n entries a point
 pub record Tables : Type 0 where

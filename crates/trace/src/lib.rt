@@ -5,8 +5,8 @@ ghost use Rattle.model.specs.Simulation.{given};
 ghost use Rattle.trace.specs.Trace.{tables};
 ghost use Rattle.trace.specs.Call.{traceInputs, lengthsRight, answered, refused};
 ghost use Rattle.trace.specs.Call.{TraceAnswered};
-use model::Params;
-use model::Segments;
+use model::Model;
+use model::Schedule;
 use refusal::Outcome;
 use refusal::Quantity;
 use refusal::Refusal;
@@ -89,8 +89,8 @@ fn lengths_right(points: usize, n: usize, lent: Lengths) -> bool
 pub fn trace(
     weights: &[f64],
     discounts: &[f64],
-    params: Params,
-    segments: Segments,
+    model: Model,
+    schedule: Schedule,
     draws: &[f64],
     spots: &mut [f64],
     variances: &mut [f64],
@@ -98,20 +98,20 @@ pub fn trace(
     factors: &mut [f64],
 ) -> Tracing
     ensures { λ r. ⌜ TraceAnswered
-        (traceInputs (given (now (weights .entry)) (now (discounts .entry)) params segments)
+        (traceInputs (given (now (weights .entry)) (now (discounts .entry)) model schedule)
         (now (draws .entry)))
         (tables (now (spots .entry)) (now (variances .entry)) (now (z .entry))
         (now (factors .entry)))
         (tables (now (spots .exit)) (now (variances .exit)) (now (z .exit))
         (now (factors .exit))) r ⌝ }
 {
-    let door = doors::prepare(weights, discounts, params, segments);
-    let asked = door.outcome;
+    let admitted = admission::prepare(weights, discounts, model, schedule);
+    let asked = admitted.outcome;
     if let Outcome::Refused(refusal) = asked {
         return refused(refusal);
     }
-    let simulation = door.simulation;
-    let total = simulation.schedule.total;
+    let simulation = admitted.simulation;
+    let total = simulation.grid.total;
     if draws.len() != total {
         return refused(Refusal::Plain(20));
     }

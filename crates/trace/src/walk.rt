@@ -63,9 +63,9 @@ pub fn walk(
     factors: &mut [f64],
 ) -> Traced
     requires { ⌜ (1 ≤ simulation .kernel .n) × (simulation .kernel .n ≤ 10) ⌝ }
-    requires { ⌜ Laid (simulation .schedule) ⌝ }
-    requires { ⌜ length (now draws) ≡ simulation .schedule .total ⌝ }
-    requires { ⌜ Sized (simulation .schedule .total) (simulation .kernel .n)
+    requires { ⌜ Laid (simulation .grid) ⌝ }
+    requires { ⌜ length (now draws) ≡ simulation .grid .total ⌝ }
+    requires { ⌜ Sized (simulation .grid .total) (simulation .kernel .n)
         (tables (now spots) (now variances) (now z) (now factors)) ⌝ }
     ensures answer { λ r. ⌜ r
         ≡ traceAnswer (traceWalk (simulationInUse simulation) (now (draws .entry))) ⌝ }
@@ -76,13 +76,13 @@ pub fn walk(
         (now (factors .entry))) ⌝ }
 {
     let kernel = simulation.kernel;
-    let raw = simulation.raw;
-    let schedule = simulation.schedule;
+    let params = simulation.params;
+    let grid = simulation.grid;
     let n = kernel.n;
-    let total = schedule.total;
+    let total = grid.total;
     let mut s = simulation.start;
     let mut segment: usize = 0;
-    let mut rates = scheme::rates_at(kernel, schedule, segment);
+    let mut rates = scheme::rates_at(kernel, grid, segment);
     let mut at: usize = 0;
     loop {
         write_point(n, s, at, spots, variances, z, factors);
@@ -90,7 +90,7 @@ pub fn walk(
             return Traced::Done { steps: at as u64 };
         }
         let g = draws::take_draw(draws, at);
-        let next = scheme::step(kernel, raw, s, g, rates);
+        let next = scheme::step(kernel, params, s, g, rates);
         let taken = at + 1;
         if let Finiteness::NonFinite(quantity) = scheme::ensure_finite(next) {
             return Traced::NonFinite {
@@ -98,9 +98,9 @@ pub fn walk(
                 quantity: quantity,
             };
         }
-        if taken == schedule.last[segment] {
+        if taken == grid.last[segment] {
             let following = segment + 1;
-            rates = scheme::rates_at(kernel, schedule, following);
+            rates = scheme::rates_at(kernel, grid, following);
             segment = following;
         }
         s = next;

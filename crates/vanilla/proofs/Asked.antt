@@ -1,4 +1,5 @@
--- The questions of a vanilla batch, one door after the other, and what they leave. Assumes nothing.
+-- The questions of a vanilla batch, one admission after the other, and what they leave. Assumes
+-- nothing.
 use mathlib.Core.Path.{_≡_, refl, sym, _∙_, ap}
 use mathlib.Core.List.{List, _++_}
 use native.Mathlib.Omega.{arith}
@@ -13,9 +14,9 @@ use Rattle.refusal.proofs.Laws.{append, then, stops, passed-first}
 use Rattle.model.specs.declared.Simulation.{Simulation}
 use Rattle.model.specs.Simulation.{simulationOf}
 use Rattle.model.specs.Inner.InUse.{simulationInUse}
-use Rattle.doors.specs.declared.ModelDoor.{ModelDoor}
-use Rattle.doors.specs.Questions.{modelQuestions}
-use Rattle.doors.specs.Inner.Doors.{SimulationReady, ModelPrepared}
+use Rattle.admission.specs.declared.ModelAdmission.{ModelAdmission}
+use Rattle.admission.specs.Questions.{modelQuestions}
+use Rattle.admission.specs.Inner.Admission.{SimulationReady, ModelPrepared}
 use Rattle.vix.specs.Inner.Form.{noForm}
 use Rattle.walks.specs.declared.Batch.{Batch as Handed}
 use Rattle.walks.specs.declared.Observation.{Observation}
@@ -42,7 +43,7 @@ module _ (i : VanillaInputs) (lent : List Float) where
   abbrev sizes : Simulation → Outcome
   sizes s =
       firstNo
-      (batchQuestions (s .schedule) (i .order .mirrored) (i .order .paths) (length (i .draws))
+      (batchQuestions (s .grid) (i .order .mirrored) (i .order .paths) (length (i .draws))
       (length lent))
 
   -- what the claim speaks of is read off the answer
@@ -51,7 +52,7 @@ module _ (i : VanillaInputs) (lent : List Float) where
   reads (priced.Refused refusal steps) = refl
 
   module _
-      (door : ModelDoor) (m : ModelPrepared (i .given) door) {asked : Outcome}
+      (door : ModelAdmission) (m : ModelPrepared (i .given) door) {asked : Outcome}
       (first : asked ≡ orLater (door .outcome) (firstNo (strikeQuestions (i .order .strike))))
     where
       first-is : asked ≡ firstNo earlier

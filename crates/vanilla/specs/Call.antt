@@ -8,9 +8,9 @@ use Rattle.numeric.specs.Double.{plusZero}
 use Rattle.refusal.specs.Refusal.{numberOf, placeOf, noPlace}
 use Rattle.refusal.specs.Questions.{Question, firstNo}
 use Rattle.model.specs.Parameters.{startOf}
-use Rattle.model.specs.Schedule.{scheduleOf}
+use Rattle.model.specs.TimeGrid.{gridOf}
 use Rattle.model.specs.Simulation.{Given, simulationOf}
-use Rattle.doors.specs.Questions.{modelQuestions}
+use Rattle.admission.specs.Questions.{modelQuestions}
 use Rattle.walks.specs.declared.Observed.the-variants.{Spot}
 use Rattle.walks.specs.Batch.{Batch, batchOn}
 use Rattle.estimates.specs.declared.Payoff.{Payoff}
@@ -34,11 +34,11 @@ vanillaInputs given order draws = record { given = given; order = order; draws =
 -- Rule 15.3: those of the model, of the strike and of the batch, with a table of so many doubles
 -- lent
 unfoldable pub vanillaQuestions : VanillaInputs → ℕ → List Question
-unfolding modelQuestions pathQuestions startOf scheduleOf
+unfolding modelQuestions pathQuestions startOf gridOf
 vanillaQuestions i lent =
     modelQuestions (i .given)
     ++ strikeQuestions (i .order .strike)
-    ++ batchQuestions (simulationOf (i .given) .schedule) (i .order .mirrored) (i .order .paths)
+    ++ batchQuestions (simulationOf (i .given) .grid) (i .order .mirrored) (i .order .paths)
     (length (i .draws)) lent
 
 -- Rule 15.3: a vanilla observes the spot

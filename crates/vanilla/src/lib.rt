@@ -6,8 +6,8 @@ use batch::Priced;
 use batch::pricing;
 use batch::questions;
 use decimal::Decimal;
-use model::Params;
-use model::Segments;
+use model::Model;
+use model::Schedule;
 use refusal::Outcome;
 use walks::Batch;
 use walks::Observation;
@@ -77,19 +77,19 @@ fn answer(priced: Priced) -> Estimate
 pub fn price(
     weights: &[f64],
     discounts: &[f64],
-    params: Params,
-    segments: Segments,
+    model: Model,
+    schedule: Schedule,
     order: Order,
     draws: &[f64],
     observations: &mut [f64],
 ) -> Estimate
     ensures { λ r. ⌜ VanillaAnswered
-        (vanillaInputs (given (now (weights .entry)) (now (discounts .entry)) params segments)
+        (vanillaInputs (given (now (weights .entry)) (now (discounts .entry)) model schedule)
         order (now (draws .entry)))
         (now (observations .entry)) (now (observations .exit)) r ⌝ }
 {
-    let door = doors::prepare(weights, discounts, params, segments);
-    let first = door.outcome;
+    let admitted = admission::prepare(weights, discounts, model, schedule);
+    let first = admitted.outcome;
     let asked = refusal::or_later(first, questions::strike_questions(order.strike));
     if let Outcome::Refused(refusal) = asked {
         return answer(Priced::Refused {
@@ -97,7 +97,7 @@ pub fn price(
             steps: 0,
         });
     }
-    let simulation = door.simulation;
+    let simulation = admitted.simulation;
     let observation = Observation::of_spot();
     let batch = Batch {
         simulation: simulation,

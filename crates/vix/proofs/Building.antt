@@ -16,7 +16,7 @@ use Rattle.refusal.specs.Questions.{asked, firstNo}
 use Rattle.refusal.proofs.Laws.{then, stops, never-both, passed-head, passed-tail}
 use Rattle.refusal.proofs.Laws.{kept-same, kept-free}
 use Rattle.model.specs.declared.Kernel.{Kernel}
-use Rattle.model.specs.declared.RawParams.{RawParams}
+use Rattle.model.specs.declared.Params.{Params}
 use Rattle.exponential.specs.Exponential.{exponential}
 use Rattle.exponential.specs.Inner.Workspace.{exponentiated, Holds}
 use Rattle.matrix.specs.Inner.Workspace.{matrixAt}
@@ -25,7 +25,7 @@ use Rattle.exponential.specs.declared.Exponentiated.the-variants as answers
 use Rattle.generator_rows.specs.State.{dimension}
 use Rattle.generator.specs.Generator.{generator}
 use Rattle.vix.specs.declared.Vix.{Vix}
-use Rattle.vix.specs.declared.FormDoor.{FormDoor}
+use Rattle.vix.specs.declared.FormAdmission.{FormAdmission}
 use Rattle.vix.specs.Build.{formOf, vixOf, momentsFinite}
 use Rattle.vix.specs.Questions.{windowQuestions, formQuestions}
 use Rattle.vix.specs.Inner.Form.{vixInUse, FormPrepared}
@@ -52,16 +52,16 @@ outcome-if true s = refl
 outcome-if false s = refl
 
 form-of :
-    (k : Kernel) (p : RawParams) (window : Float)
+    (k : Kernel) (p : Params) (window : Float)
     → formOf (k .n) window (exponential (dimension (k .n)) (generator k p window))
     ≡ vixOf k p window
 unfolding vixOf
 form-of k p window = refl
 
-module _ (k : Kernel) (p : RawParams) (window : Decimal) (lent : List Float) where
+module _ (k : Kernel) (p : Params) (window : Decimal) (lent : List Float) where
   -- 15, 1 or 16 gets a No
   pub refused-early :
-      (r : FormDoor) (x : Refusal) → r .outcome ≡ Refused x
+      (r : FormAdmission) (x : Refusal) → r .outcome ≡ Refused x
       → firstNo (windowQuestions (k .n) window (length lent)) ≡ Refused x
       → FormPrepared k p window lent lent r
   unfolding formQuestions
@@ -96,7 +96,7 @@ module _ (k : Kernel) (p : RawParams) (window : Decimal) (lent : List Float) whe
               ∙ sym (then (windowQuestions (k .n) window (length lent)) _ right)
 
           pub not-finite :
-              (r : FormDoor) → r .outcome ≡ Refused (Plain 17) → answer ≡ answers.NotFinite
+              (r : FormAdmission) → r .outcome ≡ Refused (Plain 17) → answer ≡ answers.NotFinite
               → FormPrepared k p window lent after r
           not-finite r e f =
               record {

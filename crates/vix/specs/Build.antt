@@ -8,7 +8,7 @@ use lib.Ieee.{Float, binary64, ofInt, div}
 use Rattle.numeric.specs.Double.{over}
 use Rattle.numeric.specs.Table.{tabulate}
 use Rattle.model.specs.declared.Kernel.{Kernel}
-use Rattle.model.specs.declared.RawParams.{RawParams}
+use Rattle.model.specs.declared.Params.{Params}
 use Rattle.matrix.specs.Matrix.{entry}
 use Rattle.exponential.specs.Exponential.{exponential, exponentialFinite}
 use Rattle.generator_rows.specs.State.{pairsBefore, integralAt, constantAt, dimension}
@@ -30,12 +30,12 @@ formOf n window m =
     }
 
 -- Rule 13.1: the form over a window, from the exponential of the generator
-unfoldable pub vixOf : Kernel → RawParams → Float → Vix
+unfoldable pub vixOf : Kernel → Params → Float → Vix
 unfolding formOf exponential generator pairsBefore
 vixOf k p window =
     formOf (k .n) window (exponential (dimension (k .n)) (generator k p window))
 
 -- Rule 13.2: the exponential of the generator is finite (rule 12.8)
-unfoldable pub momentsFinite : Kernel → RawParams → Float → Bool
+unfoldable pub momentsFinite : Kernel → Params → Float → Bool
 unfolding exponentialFinite generator pairsBefore
 momentsFinite k p window = exponentialFinite (dimension (k .n)) (generator k p window)

@@ -6,7 +6,7 @@ use Rattle.decimal.specs.declared.Decimal.{Decimal}
 use Rattle.decimal.specs.Decimal.{isPositive, scaleFits, value}
 use Rattle.refusal.specs.Questions.{Question, asked}
 use Rattle.model.specs.declared.Kernel.{Kernel}
-use Rattle.model.specs.declared.RawParams.{RawParams}
+use Rattle.model.specs.declared.Params.{Params}
 use Rattle.generator_rows.specs.State.{pairsBefore, dimension}
 use Rattle.vix.specs.Build.{momentsFinite}
 
@@ -20,7 +20,7 @@ windowQuestions n window workspace =
     ∷ []
 
 -- then 17, finite moments
-unfoldable pub formQuestions : Kernel → RawParams → Decimal → ℕ → List Question
+unfoldable pub formQuestions : Kernel → Params → Decimal → ℕ → List Question
 unfolding windowQuestions momentsFinite
 formQuestions k p window workspace =
     windowQuestions (k .n) window workspace ++ (asked 17 (momentsFinite k p (value window)) ∷ [])

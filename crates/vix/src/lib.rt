@@ -16,7 +16,7 @@ use decimal::Decimal;
 use exponential::Exponentiated;
 use generator_rows::state;
 use model::Kernel;
-use model::RawParams;
+use model::Params;
 use refusal::Outcome;
 use refusal::Refusal;
 
@@ -30,8 +30,8 @@ pub struct Vix {
     pub pairs: [f64; 55],
 }
 
-// The door of the form answers what its questions came to and, where all passed, the form.
-pub struct FormDoor {
+// What the questions of the form came to and, where all passed, the form.
+pub struct FormAdmission {
     pub outcome: Outcome,
     pub form: Vix,
 }
@@ -119,10 +119,10 @@ fn window_questions(n: usize, window: Decimal, workspace: usize) -> Outcome
     refusal::ask(asked, Refusal::Plain(16), workspace == 5 * (dim * dim))
 }
 
-fn refused(refusal: Refusal) -> FormDoor
+fn refused(refusal: Refusal) -> FormAdmission
     ensures { λ r. ⌜ r .outcome ≡ Outcome.Refused refusal ⌝ }
 {
-    FormDoor {
+    FormAdmission {
         outcome: Outcome::Refused(refusal),
         form: no_form(0),
     }
@@ -130,7 +130,7 @@ fn refused(refusal: Refusal) -> FormDoor
 
 // The form over a window, by the exponential of the moment system's generator. Where 15, 1 or 16
 // gets a No the workspace is as lent; else what it held before is lost.
-pub fn prepare(k: Kernel, p: RawParams, window: Decimal, workspace: &mut [f64]) -> FormDoor
+pub fn prepare(k: Kernel, p: Params, window: Decimal, workspace: &mut [f64]) -> FormAdmission
     requires { ⌜ k .n ≤ 10 ⌝ }
     ensures { λ r. ⌜ FormPrepared (kernelInUse k) p window
         (now (workspace .entry)) (now (workspace .exit)) r ⌝ }
@@ -144,7 +144,7 @@ pub fn prepare(k: Kernel, p: RawParams, window: Decimal, workspace: &mut [f64]) 
     let dim = state::dimension_of(n);
     match exponential::exponential(dim, workspace) {
         Exponentiated::NotFinite => refused(Refusal::Plain(17)),
-        Exponentiated::Done(_) => FormDoor {
+        Exponentiated::Done(_) => FormAdmission {
             outcome: Outcome::Passed,
             form: form::of_matrix(n, dim, span, workspace),
         },

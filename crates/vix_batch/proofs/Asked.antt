@@ -1,4 +1,5 @@
--- The questions of a VIX batch, one door after the other, and what they leave. Assumes nothing.
+-- The questions of a VIX batch, one admission after the other, and what they leave. Assumes
+-- nothing.
 use mathlib.Core.Path.{_≡_, refl, sym, _∙_, ap, subst}
 use mathlib.Core.Bool.{false}
 use mathlib.Core.List.{List, _++_}
@@ -16,11 +17,11 @@ use Rattle.model.specs.declared.Simulation.{Simulation}
 use Rattle.model.specs.declared.State.{State}
 use Rattle.model.specs.Simulation.{simulationOf}
 use Rattle.model.specs.Inner.InUse.{kernelInUse, simulationInUse}
-use Rattle.doors.specs.declared.ModelDoor.{ModelDoor}
-use Rattle.doors.specs.Questions.{modelQuestions}
-use Rattle.doors.specs.Inner.Doors.{SimulationReady, ModelPrepared}
+use Rattle.admission.specs.declared.ModelAdmission.{ModelAdmission}
+use Rattle.admission.specs.Questions.{modelQuestions}
+use Rattle.admission.specs.Inner.Admission.{SimulationReady, ModelPrepared}
 use Rattle.vix.specs.declared.Vix.{Vix}
-use Rattle.vix.specs.declared.FormDoor.{FormDoor}
+use Rattle.vix.specs.declared.FormAdmission.{FormAdmission}
 use Rattle.vix.specs.Form.{rawSquared}
 use Rattle.vix.specs.Build.{vixOf}
 use Rattle.vix.specs.Questions.{windowQuestions, formQuestions}
@@ -45,7 +46,7 @@ use Rattle.vix_batch.specs.Call.{throughWorkspace, VixBatchAnswered}
 module _ (i : VixBatchInputs) (work lent : List Float) where
   -- what is asked of the form, and before 19
   abbrev ofForm : Simulation → List Question
-  ofForm s = formQuestions (s .kernel) (s .raw) (i .order .window) (length work)
+  ofForm s = formQuestions (s .kernel) (s .params) (i .order .window) (length work)
 
   abbrev earlier : List Question
   earlier =
@@ -56,7 +57,7 @@ module _ (i : VixBatchInputs) (work lent : List Float) where
   abbrev sizes : Simulation → Outcome
   sizes s =
       firstNo
-      (batchQuestions (s .schedule) false (i .order .paths) (length (i .draws)) (length lent))
+      (batchQuestions (s .grid) false (i .order .paths) (length (i .draws)) (length lent))
 
   -- what the claim speaks of is read off the answer
   reads : (x : Priced) → read (written x) ≡ answerOf (vixBatch i) x
@@ -78,7 +79,7 @@ module _ (i : VixBatchInputs) (work lent : List Float) where
         workspace = kept;
       }
 
-  module _ (door : ModelDoor) (m : ModelPrepared (i .given) door) where
+  module _ (door : ModelAdmission) (m : ModelPrepared (i .given) door) where
     pub model-refused :
         (r : Refusal) → door .outcome ≡ Refused r → {x : VixEstimate}
         → x ≡ written (priced.Refused r 0) → VixBatchAnswered i work work lent lent x
@@ -95,9 +96,9 @@ module _ (i : VixBatchInputs) (work lent : List Float) where
       ready = m .ready e
 
       module _
-          {workAfter : List Float} (form : FormDoor)
+          {workAfter : List Float} (form : FormAdmission)
           (built :
-          FormPrepared (kernelInUse (door .simulation .kernel)) (door .simulation .raw)
+          FormPrepared (kernelInUse (door .simulation .kernel)) (door .simulation .params)
           (i .order .window) work workAfter form)
           {asked : Outcome}
           (second : asked ≡ orLater (form .outcome) (firstNo (payoffQuestions (i .order .payoff))))
@@ -143,7 +144,7 @@ module _ (i : VixBatchInputs) (work lent : List Float) where
               -- the form that the code has is the form over the window
               form-is :
                   vixInUse (form .form)
-                  ≡ vixOf (kernelInUse (door .simulation .kernel)) (door .simulation .raw)
+                  ≡ vixOf (kernelInUse (door .simulation .kernel)) (door .simulation .params)
                   (value (i .order .window))
               form-is = built .ready (earlier-passed (form .outcome) _ (sym second ∙ h))
 
@@ -186,7 +187,7 @@ module _ (i : VixBatchInputs) (work lent : List Float) where
                   ∙ ap (over (simulationInUse (door .simulation))) form-is
                   ∙ ap
                   (λ (s : Simulation).
-                  over s (vixOf (s .kernel) (s .raw) (value (i .order .window))))
+                  over s (vixOf (s .kernel) (s .params) (value (i .order .window))))
                   (ready .in-use)
 
               pub priced-through :

@@ -9,9 +9,9 @@ use Rattle.decimal.specs.Decimal.{value}
 use Rattle.refusal.specs.Refusal.{numberOf, placeOf, noPlace}
 use Rattle.refusal.specs.Questions.{Question, firstNo, KeptUnlessPassed}
 use Rattle.model.specs.Parameters.{startOf}
-use Rattle.model.specs.Schedule.{scheduleOf}
+use Rattle.model.specs.TimeGrid.{gridOf}
 use Rattle.model.specs.Simulation.{Given, simulationOf}
-use Rattle.doors.specs.Questions.{modelQuestions}
+use Rattle.admission.specs.Questions.{modelQuestions}
 use Rattle.vix.specs.declared.Vix.{Vix}
 use Rattle.vix.specs.Form.{rawSquared}
 use Rattle.vix.specs.Build.{vixOf}
@@ -46,21 +46,21 @@ payoffFor p = cond (p .future) Future (vanillaAt (p .put) (p .strike))
 abbrev pub payoffQuestions : VixPayoff → List Question
 payoffQuestions p = cond (p .future) [] (strikeQuestions (p .strike))
 
--- Rule 15.5: those of the model, of the form, of the payoff and of the batch, with a workspace and a
--- table of so many doubles lent
+-- Rule 15.5: those of the model, of the form, of the payoff and of the batch, with a workspace and
+-- a table of so many doubles lent
 unfoldable pub vixBatchQuestions : VixBatchInputs → ℕ → ℕ → List Question
-unfolding modelQuestions formQuestions pathQuestions startOf scheduleOf
+unfolding modelQuestions formQuestions pathQuestions startOf gridOf
 vixBatchQuestions i workspace lent =
     let s = simulationOf (i .given) in
     modelQuestions (i .given)
-    ++ formQuestions (s .kernel) (s .raw) (i .order .window) workspace
+    ++ formQuestions (s .kernel) (s .params) (i .order .window) workspace
     ++ payoffQuestions (i .order .payoff)
-    ++ batchQuestions (s .schedule) false (i .order .paths) (length (i .draws)) lent
+    ++ batchQuestions (s .grid) false (i .order .paths) (length (i .draws)) lent
 
 -- Rule 13.1: the form over the window
 abbrev pub formOver : VixBatchInputs → Vix
 formOver i =
-    let s = simulationOf (i .given) in vixOf (s .kernel) (s .raw) (value (i .order .window))
+    let s = simulationOf (i .given) in vixOf (s .kernel) (s .params) (value (i .order .window))
 
 -- Rule 15.5: a VIX batch observes the raw VIX squared, and is never mirrored
 abbrev pub vixBatch : VixBatchInputs → Batch
@@ -68,8 +68,8 @@ vixBatch i =
     batchOn (simulationOf (i .given)) VixSquared (λ s. rawSquared (formOver i) (s .factors)) false
     (i .order .paths) (i .draws)
 
--- Rules 17.1 and 17.2: payoff and index, each with its standard error, paths and the steps taken; at
--- a refusal zeros, but for the steps
+-- Rules 17.1 and 17.2: payoff and index, each with its standard error, paths and the steps taken;
+-- at a refusal zeros, but for the steps
 abbrev pub written : Priced → VixEstimate
 written (Price report) =
     record {

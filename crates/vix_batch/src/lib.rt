@@ -9,8 +9,8 @@ use batch::pricing;
 use batch::questions;
 use decimal::Decimal;
 use estimates::Payoff;
-use model::Params;
-use model::Segments;
+use model::Model;
+use model::Schedule;
 use refusal::Outcome;
 use walks::Batch;
 use walks::Observation;
@@ -103,32 +103,32 @@ fn payoff_of(payoff: VixPayoff) -> Payoff
 pub fn price(
     weights: &[f64],
     discounts: &[f64],
-    params: Params,
-    segments: Segments,
+    model: Model,
+    schedule: Schedule,
     order: Order,
     draws: &[f64],
     workspace: &mut [f64],
     observations: &mut [f64],
 ) -> VixEstimate
     ensures { λ r. ⌜ VixBatchAnswered
-        (vixBatchInputs (given (now (weights .entry)) (now (discounts .entry)) params segments)
+        (vixBatchInputs (given (now (weights .entry)) (now (discounts .entry)) model schedule)
         order (now (draws .entry)))
         (now (workspace .entry)) (now (workspace .exit))
         (now (observations .entry)) (now (observations .exit)) r ⌝ }
 {
-    let model = doors::prepare(weights, discounts, params, segments);
-    let first = model.outcome;
+    let admitted = admission::prepare(weights, discounts, model, schedule);
+    let first = admitted.outcome;
     if let Outcome::Refused(refusal) = first {
         return answer(Priced::Refused {
             refusal: refusal,
             steps: 0,
         });
     }
-    let simulation = model.simulation;
+    let simulation = admitted.simulation;
     let kernel = simulation.kernel;
-    let raw = simulation.raw;
-    let door = vix::prepare(kernel, raw, order.window, workspace);
-    let second = door.outcome;
+    let params = simulation.params;
+    let formed = vix::prepare(kernel, params, order.window, workspace);
+    let second = formed.outcome;
     let wanted = order.payoff;
     let asked = refusal::or_later(second, payoff_questions(wanted));
     if let Outcome::Refused(refusal) = asked {
@@ -137,7 +137,7 @@ pub fn price(
             steps: 0,
         });
     }
-    let form = door.form;
+    let form = formed.form;
     let observation = Observation::of_vix(form);
     let batch = Batch {
         simulation: simulation,

@@ -14,16 +14,16 @@ use Rattle.refusal.specs.Inner.Asking.{orLater, further}
 use Rattle.refusal.proofs.Laws.{append, then, stops, in-turn, earlier-passed, later-same}
 use Rattle.refusal.proofs.Laws.{kept-same}
 use Rattle.model.specs.declared.Kernel.{Kernel}
-use Rattle.model.specs.declared.RawParams.{RawParams}
+use Rattle.model.specs.declared.Params.{Params}
 use Rattle.model.specs.Kernel.{kernelOf}
-use Rattle.model.specs.Parameters.{rawParams, rawFactors}
+use Rattle.model.specs.Parameters.{paramsOf, factorsOf}
 use Rattle.model.specs.Inner.InUse.{kernelInUse}
-use Rattle.doors.specs.declared.KernelDoor.{KernelDoor}
-use Rattle.doors.specs.declared.ParamsDoor.{ParamsDoor}
-use Rattle.doors.specs.Questions.{kernelQuestions, paramsQuestions}
-use Rattle.doors.specs.Inner.Doors.{KernelReady, KernelPrepared, ParamsPrepared}
+use Rattle.admission.specs.declared.KernelAdmission.{KernelAdmission}
+use Rattle.admission.specs.declared.ParamsAdmission.{ParamsAdmission}
+use Rattle.admission.specs.Questions.{kernelQuestions, paramsQuestions}
+use Rattle.admission.specs.Inner.Admission.{KernelReady, KernelPrepared, ParamsPrepared}
 use Rattle.vix.specs.declared.Vix.{Vix}
-use Rattle.vix.specs.declared.FormDoor.{FormDoor}
+use Rattle.vix.specs.declared.FormAdmission.{FormAdmission}
 use Rattle.vix.specs.declared.Evaluated.{Evaluated}
 use Rattle.vix.specs.Build.{formOf, vixOf}
 use Rattle.vix.specs.Questions.{windowQuestions, formQuestions}
@@ -52,7 +52,7 @@ module _ (form : Vix) (given : Factors) where
 
   pub given-evaluated :
       firstNo (givenQuestions (form .n) given) ≡ Passed
-      → (a : Evaluated) → a ≡ evaluation form (rawFactors (form .n) (given .factors))
+      → (a : Evaluated) → a ≡ evaluation form (factorsOf (form .n) (given .factors))
       → evaluatedValue a ≡ valueAt form given
   unfolding valueAt
   given-evaluated e a f = rw e (ap evaluatedValue f)
@@ -61,32 +61,32 @@ module _ (form : Vix) (given : Factors) where
 abbrev kernelGiven : VixInputs → Kernel
 kernelGiven i = kernelOf (i .weights) (i .discounts)
 
-abbrev rawGiven : VixInputs → RawParams
-rawGiven i = rawParams (i .params)
+abbrev rawGiven : VixInputs → Params
+rawGiven i = paramsOf (i .model)
 
 -- what is asked of the form
 abbrev ofForm : VixInputs → ℕ → List Question
 ofForm i size = formQuestions (kernelGiven i) (rawGiven i) (i .window) size
 
 form-n :
-    (k : Kernel) (p : RawParams) (w : Float) (v : Vix) → vixInUse v ≡ vixOf k p w → v .n ≡ k .n
+    (k : Kernel) (p : Params) (w : Float) (v : Vix) → vixInUse v ≡ vixOf k p w → v .n ≡ k .n
 unfolding vixOf formOf
 form-n k p w v e = ap (λ (x : Vix). x .n) e
 
 module _
-    (i : VixInputs) (lent : List Float) (k : KernelDoor) (p : ParamsDoor)
+    (i : VixInputs) (lent : List Float) (k : KernelAdmission) (p : ParamsAdmission)
     (tables : KernelPrepared (i .weights) (i .discounts) k)
-    (initial : ParamsPrepared (k .kernel) (i .params) p)
+    (initial : ParamsPrepared (k .kernel) (i .model) p)
   where
     initial-asked : orLater (k .outcome) (p .outcome) ≡ firstNo (initialQuestions i)
     unfolding initialQuestions
     initial-asked =
         let kernel = kernelQuestions (i .weights) (i .discounts) in
-        let params = paramsQuestions (length (i .weights)) (i .params) in
+        let params = paramsQuestions (length (i .weights)) (i .model) in
         later-same (k .outcome) (p .outcome) (firstNo params)
         (λ e.
         initial .outcome
-        ∙ ap (λ (x : Kernel). firstNo (paramsQuestions (x .n) (i .params)))
+        ∙ ap (λ (x : Kernel). firstNo (paramsQuestions (x .n) (i .model)))
         (tables .ready e .in-use))
         ∙ rw (tables .outcome) (sym (append kernel params))
 
@@ -105,11 +105,11 @@ module _
           workspace = kept-same (firstNo (throughWorkspace i (length lent))) lent;
         }
 
-    -- they are passed, and the door of the form has answered
+    -- they are passed, and the admission of the form has answered
     module _
         (passed : orLater (k .outcome) (p .outcome) ≡ Passed) (after : List Float)
-        (door : FormDoor)
-        (prepared : FormPrepared (kernelInUse (k .kernel)) (p .raw) (i .window) lent after door)
+        (door : FormAdmission)
+        (prepared : FormPrepared (kernelInUse (k .kernel)) (p .params) (i .window) lent after door)
       where
         ready : KernelReady (i .weights) (i .discounts) (k .kernel)
         ready = tables .ready (earlier-passed (k .outcome) (p .outcome) passed)
@@ -117,7 +117,7 @@ module _
         passed-initial : firstNo (initialQuestions i) ≡ Passed
         passed-initial = sym initial-asked ∙ passed
 
-        -- what the door did with the prepared model it did with the given one
+        -- what admission did with the prepared model it did with the given one
         kept : KeptUnlessPassed (firstNo (throughWorkspace i (length lent))) lent after
         unfolding throughWorkspace
         kept =
@@ -135,12 +135,12 @@ module _
             then (initialQuestions i) _ passed-initial
             ∙ sym
             (prepared .outcome
-            ∙ ap (λ (x : Kernel). firstNo (formQuestions x (p .raw) (i .window) (length lent)))
+            ∙ ap (λ (x : Kernel). firstNo (formQuestions x (p .params) (i .window) (length lent)))
             (ready .in-use)
             ∙ ap
-            (λ (x : RawParams).
+            (λ (x : Params).
             firstNo (formQuestions (kernelGiven i) x (i .window) (length lent)))
-            (initial .raw))
+            (initial .params))
 
         pub refused-late :
             (x : Refusal) → door .outcome ≡ Refused x
@@ -160,14 +160,14 @@ module _
               vixInUse (door .form) ≡ vixOf (kernelGiven i) (rawGiven i) (value (i .window))
           form-is =
               prepared .ready passed-form
-              ∙ ap (λ (x : Kernel). vixOf x (p .raw) (value (i .window))) (ready .in-use)
-              ∙ ap (λ (x : RawParams). vixOf (kernelGiven i) x (value (i .window)))
-              (initial .raw)
+              ∙ ap (λ (x : Kernel). vixOf x (p .params) (value (i .window))) (ready .in-use)
+              ∙ ap (λ (x : Params). vixOf (kernelGiven i) x (value (i .window)))
+              (initial .params)
 
           pub form-few : door .form .n ≤ 10
           form-few =
               let same =
-              form-n (kernelInUse (k .kernel)) (p .raw) (value (i .window)) (door .form)
+              form-n (kernelInUse (k .kernel)) (p .params) (value (i .window)) (door .form)
               (prepared .ready passed-form) in
               let few = tables .few in
               omega arith

@@ -9,10 +9,10 @@ use lib.Ieee.{Float}
 use Rattle.decimal.specs.declared.Decimal.{Decimal}
 use Rattle.decimal.specs.Decimal.{value}
 use Rattle.refusal.specs.Questions.{Question, asked, firstNo, each, onceAsked, KeptUnlessPassed}
-use Rattle.model.specs.declared.Params.{Params}
+use Rattle.model.specs.declared.Model.{Model}
 use Rattle.model.specs.Kernel.{kernelOf}
-use Rattle.model.specs.Parameters.{rawParams, rawFactors}
-use Rattle.doors.specs.Questions.{kernelQuestions, factorQuestions, paramsQuestions}
+use Rattle.model.specs.Parameters.{paramsOf, factorsOf}
+use Rattle.admission.specs.Questions.{kernelQuestions, factorQuestions, paramsQuestions}
 use Rattle.vix.specs.Build.{vixOf}
 use Rattle.vix.specs.Questions.{windowQuestions, formQuestions}
 use Rattle.vix.specs.Evaluation.{evaluation}
@@ -24,16 +24,16 @@ use Rattle.vix_value.specs.Answer.{refusedValue, evaluatedValue}
 pub record VixInputs : Type 0 where
   pub weights : List Float
   pub discounts : List Float
-  pub params : Params
+  pub model : Model
   pub window : Decimal
   pub given : Factors
 
-abbrev pub vixInputs : List Float → List Float → Params → Decimal → Factors → VixInputs
-vixInputs weights discounts params window given =
+abbrev pub vixInputs : List Float → List Float → Model → Decimal → Factors → VixInputs
+vixInputs weights discounts model window given =
     record {
       weights = weights;
       discounts = discounts;
-      params = params;
+      model = model;
       window = window;
       given = given;
     }
@@ -48,26 +48,26 @@ unfoldable pub initialQuestions : VixInputs → List Question
 unfolding kernelQuestions paramsQuestions
 initialQuestions i =
     kernelQuestions (i .weights) (i .discounts)
-    ++ paramsQuestions (length (i .weights)) (i .params)
+    ++ paramsQuestions (length (i .weights)) (i .model)
 
 -- Rule 15.4: all but 23 and 24, of a workspace of so many doubles, in order.
 unfoldable pub vixQuestions : VixInputs → ℕ → List Question
 unfolding initialQuestions formQuestions givenQuestions
 vixQuestions i workspace =
     initialQuestions i
-    ++ formQuestions (kernelOf (i .weights) (i .discounts)) (rawParams (i .params)) (i .window)
+    ++ formQuestions (kernelOf (i .weights) (i .discounts)) (paramsOf (i .model)) (i .window)
     workspace
     ++ givenQuestions (length (i .weights)) (i .given)
 
 -- Rule 15.4: the answer, with a workspace of so many doubles lent.
 unfoldable pub vixCall : VixInputs → ℕ → VixValue
-unfolding vixQuestions evaluation vixOf rawFactors
+unfolding vixQuestions evaluation vixOf factorsOf
 vixCall i workspace =
     onceAsked (firstNo (vixQuestions i workspace)) refusedValue
     (evaluatedValue
     (evaluation
-    (vixOf (kernelOf (i .weights) (i .discounts)) (rawParams (i .params)) (value (i .window)))
-    (rawFactors (length (i .weights)) (i .given .factors))))
+    (vixOf (kernelOf (i .weights) (i .discounts)) (paramsOf (i .model)) (value (i .window)))
+    (factorsOf (length (i .weights)) (i .given .factors))))
 
 -- Rule 16.5: the questions up to 16. Once they are passed, the workspace is free.
 unfoldable pub throughWorkspace : VixInputs → ℕ → List Question

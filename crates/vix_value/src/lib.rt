@@ -7,10 +7,10 @@ ghost use Rattle.vix.specs.Inner.Form.{vixInUse};
 ghost use Rattle.vix_value.specs.Answer.{refusedValue, evaluatedValue};
 ghost use Rattle.vix_value.specs.Call.{givenQuestions, vixInputs, VixValueAnswered};
 ghost use Rattle.vix_value.specs.Inner.Given.{valueAt};
+use admission::kernel;
+use admission::params;
 use decimal::Decimal;
-use doors::kernel;
-use doors::params;
-use model::Params;
+use model::Model;
 use refusal::Outcome;
 use refusal::Refusal;
 use vix::Evaluated;
@@ -80,35 +80,35 @@ fn value_at(form: Vix, given: Factors) -> VixValue
         return refused(refusal);
     }
     let factors = given.factors;
-    answered(vix::evaluate(form, params::raw_factors(n, factors)))
+    answered(vix::evaluate(form, params::factors_of(n, factors)))
 }
 
 pub fn evaluate(
     weights: &[f64],
     discounts: &[f64],
-    params: Params,
+    model: Model,
     window: Decimal,
     given: Factors,
     workspace: &mut [f64],
 ) -> VixValue
     ensures { λ r. ⌜ VixValueAnswered
-        (vixInputs (now (weights .entry)) (now (discounts .entry)) params window given)
+        (vixInputs (now (weights .entry)) (now (discounts .entry)) model window given)
         (now (workspace .entry)) (now (workspace .exit)) r ⌝ }
 {
     let tables = kernel::tables(weights, discounts);
     let first = tables.outcome;
     let k = tables.kernel;
-    let initial = params::try_new(k, params);
+    let initial = params::try_new(k, model);
     let second = initial.outcome;
     if let Outcome::Refused(refusal) = refusal::or_later(first, second) {
         return refused(refusal);
     }
-    let raw = initial.raw;
-    let door = vix::prepare(k, raw, window, workspace);
-    let asked = door.outcome;
+    let params = initial.params;
+    let formed = vix::prepare(k, params, window, workspace);
+    let asked = formed.outcome;
     if let Outcome::Refused(refusal) = asked {
         return refused(refusal);
     }
-    let form = door.form;
+    let form = formed.form;
     value_at(form, given)
 }

@@ -11,11 +11,11 @@ use Rattle.numeric.specs.Double.{times, minus, finite}
 use Rattle.numeric.specs.Root.{root}
 use Rattle.numeric.proofs.Finite.{never, plus-finite, times-finite, minus-finite}
 use Rattle.model.specs.declared.Kernel.{Kernel}
-use Rattle.model.specs.declared.RawParams.{RawParams}
+use Rattle.model.specs.declared.Params.{Params}
 use Rattle.model.specs.declared.State.{State}
 use Rattle.model.specs.declared.Finiteness.the-variants.{Finite}
 use Rattle.model.specs.Step.{varianceAt, read, step, finiteness}
-use Rattle.model.specs.Schedule.{dtAt, sqrtDtAt}
+use Rattle.model.specs.TimeGrid.{dtAt, sqrtDtAt}
 use Rattle.model.specs.Walk.{Walk, stateAfter, stopWithin}
 use Rattle.model.proofs.First.{split}
 use Rattle.model.proofs.FiniteStates.{finite-parts, parts-finite}
@@ -28,21 +28,21 @@ root-finite (inf true) h = never refl h
 root-finite (inf false) h = never refl h
 root-finite (fin s m e) h = refl
 
-variance-finite : (p : RawParams) (z : Float) → finite (varianceAt p z) ≡ true → finite z ≡ true
+variance-finite : (p : Params) (z : Float) → finite (varianceAt p z) ≡ true → finite z ≡ true
 unfolding varianceAt
 variance-finite p z h =
     let s = minus z (p .b) in
     minus-finite z (p .b) (times-finite (times (p .a) s) s (plus-finite (times (times (p .a) s) s) (p .c) h .0) .1) .0
 
 -- a finite spot after a step: spot and variance were finite
-step-finite : (k : Kernel) (p : RawParams) (s : State) (g dt sqrtDt : Float) → finite (step k p s g dt sqrtDt .spot) ≡ true → (finite (s .spot) ≡ true) × (finite (s .variance) ≡ true)
+step-finite : (k : Kernel) (p : Params) (s : State) (g dt sqrtDt : Float) → finite (step k p s g dt sqrtDt .spot) ≡ true → (finite (s .spot) ≡ true) × (finite (s .variance) ≡ true)
 unfolding step read
 step-finite k p s g dt sqrtDt h =
     let d = times (root binary64 (s .variance)) (times sqrtDt g) in
     let parts = plus-finite (s .spot) (times (s .spot) d) h in
     (parts .0, root-finite (s .variance) (times-finite (root binary64 (s .variance)) (times sqrtDt g) (times-finite (s .spot) d (parts .1) .1) .0))
 
-read-variance : (k : Kernel) (p : RawParams) (s : State) (g dt sqrtDt : Float) → step k p s g dt sqrtDt .variance ≡ varianceAt p (step k p s g dt sqrtDt .z)
+read-variance : (k : Kernel) (p : Params) (s : State) (g dt sqrtDt : Float) → step k p s g dt sqrtDt .variance ≡ varianceAt p (step k p s g dt sqrtDt .z)
 unfolding step read
 read-variance k p s g dt sqrtDt = refl
 
@@ -51,9 +51,9 @@ module _ (w : Walk) where
   unfolding stateAfter
   before k h =
       let s = stateAfter w (suc k) in
-      let parts = step-finite (w .simulation .kernel) (w .simulation .raw) s (w .draw (suc (suc k))) (dtAt (w .simulation .schedule) (suc (suc k))) (sqrtDtAt (w .simulation .schedule) (suc (suc k))) h in
-      let is-read : s .variance ≡ varianceAt (w .simulation .raw) (s .z) = read-variance (w .simulation .kernel) (w .simulation .raw) (stateAfter w k) (w .draw (suc k)) (dtAt (w .simulation .schedule) (suc k)) (sqrtDtAt (w .simulation .schedule) (suc k)) in
-      parts-finite s (parts .0) (variance-finite (w .simulation .raw) (s .z) (ap finite (sym is-read) ∙ parts .1)) (parts .1)
+      let parts = step-finite (w .simulation .kernel) (w .simulation .params) s (w .draw (suc (suc k))) (dtAt (w .simulation .grid) (suc (suc k))) (sqrtDtAt (w .simulation .grid) (suc (suc k))) h in
+      let is-read : s .variance ≡ varianceAt (w .simulation .params) (s .z) = read-variance (w .simulation .kernel) (w .simulation .params) (stateAfter w k) (w .draw (suc k)) (dtAt (w .simulation .grid) (suc k)) (sqrtDtAt (w .simulation .grid) (suc k)) in
+      parts-finite s (parts .0) (variance-finite (w .simulation .params) (s .z) (ap finite (sym is-read) ∙ parts .1)) (parts .1)
 
   pub all-finite : (n : ℕ) → finiteness (stateAfter w n) ≡ Finite → (k : ℕ) → 1 ≤ k → k ≤ n → finiteness (stateAfter w k) ≡ Finite
   all-finite zero h k l m = absurd (omega arith)

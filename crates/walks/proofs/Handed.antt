@@ -8,14 +8,14 @@ use native.Mathlib.Omega.{arith}
 use lib.ListN.{getD}
 use lib.Ieee.{Float, nan}
 use Rattle.model.specs.declared.Kernel.{Kernel}
-use Rattle.model.specs.declared.RawParams.{RawParams}
+use Rattle.model.specs.declared.Params.{Params}
 use Rattle.model.specs.declared.Rates.{Rates}
-use Rattle.model.specs.declared.Schedule.{Schedule}
+use Rattle.model.specs.declared.TimeGrid.{TimeGrid}
 use Rattle.model.specs.declared.State.{State}
 use Rattle.model.specs.Inner.Laid.{Laid}
 use Rattle.model.specs.Inner.Rates.{RatesOf}
-use Rattle.model.specs.Schedule.{dtAt, sqrtDtAt}
-use Rattle.model.specs.Inner.InUse.{scheduleInUse}
+use Rattle.model.specs.TimeGrid.{dtAt, sqrtDtAt}
+use Rattle.model.specs.Inner.InUse.{gridInUse}
 use Rattle.model.specs.Step.{step, finiteness}
 use Rattle.model.specs.Inner.InUse.{stateInUse}
 use Rattle.model.proofs.Containment.{Reached, reached-in-use, dt-reached, sqrt-dt-reached}
@@ -45,11 +45,11 @@ observed-in-use Spot v n h s = refl
 observed-in-use VixSquared v n h s =
     squared-in-use v (v .n) (omega arith) (s .factors) ∙ sym (squared-in-use v n h (s .factors))
 
-step-with : (k : Kernel) (p : RawParams) (s : State) {g g′ dt dt′ root root′ : Float} → g ≡ g′ → dt ≡ dt′ → root ≡ root′ → step k p s g dt root ≡ step k p s g′ dt′ root′
+step-with : (k : Kernel) (p : Params) (s : State) {g g′ dt dt′ root root′ : Float} → g ≡ g′ → dt ≡ dt′ → root ≡ root′ → step k p s g dt root ≡ step k p s g′ dt′ root′
 step-with k p s a b c = rw (a, b, c)
 
 -- a step with the rates of the segment that is still to end is the step of the plain walk
-pub step-in-use : (sc : Schedule) → Laid sc → (segment at : ℕ) → Reached (scheduleInUse sc) segment at → segment < sc .count → (k : Kernel) (rates : Rates) → RatesOf k (getD (sc .dt) segment nan) (getD (sc .«sqrt_dt») segment nan) rates → (k′ : Kernel) (p : RawParams) (s s′ : State) (g g′ : Float) → g ≡ g′ → s′ ≡ step k′ p s g (rates .dt) (rates .«sqrt_dt») → s′ ≡ step k′ p s g′ (dtAt (scheduleInUse sc) (suc at)) (sqrtDtAt (scheduleInUse sc) (suc at))
+pub step-in-use : (sc : TimeGrid) → Laid sc → (segment at : ℕ) → Reached (gridInUse sc) segment at → segment < sc .count → (k : Kernel) (rates : Rates) → RatesOf k (getD (sc .dt) segment nan) (getD (sc .«sqrt_dt») segment nan) rates → (k′ : Kernel) (p : Params) (s s′ : State) (g g′ : Float) → g ≡ g′ → s′ ≡ step k′ p s g (rates .dt) (rates .«sqrt_dt») → s′ ≡ step k′ p s g′ (dtAt (gridInUse sc) (suc at)) (sqrtDtAt (gridInUse sc) (suc at))
 step-in-use sc laid segment at h l k rates r k′ p s s′ g g′ e q =
     q
     ∙ step-with k′ p s e

@@ -8,7 +8,7 @@ use lib.Ieee.{Float, nan, neg, le}
 use Rattle.numeric.specs.Double.{plusZero}
 use Rattle.model.specs.declared.Simulation.{Simulation}
 use Rattle.model.specs.declared.State.{State}
-use Rattle.model.specs.Schedule.{lastStep}
+use Rattle.model.specs.TimeGrid.{lastStep}
 use Rattle.model.specs.Walk.{Walk, stateAfter}
 use Rattle.walks.specs.declared.Observed.{Observed}
 
@@ -54,7 +54,7 @@ batchOn simulation observed observe mirrored paths draws =
       observed = observed;
       observe = observe;
       paths = paths;
-      draw = drawOf mirrored draws (simulation .schedule .total);
+      draw = drawOf mirrored draws (simulation .grid .total);
     }
 
 -- Rule 9.7: whether a spot is at or below zero after one of the first k steps
@@ -69,9 +69,9 @@ unfolding nonPositiveBy
 nonPositivePaths b zero = 0
 nonPositivePaths b (suc n) =
     nonPositivePaths b n
-    + cond (nonPositiveBy (walkOf b (suc n)) (b .simulation .schedule .total)) 1 0
+    + cond (nonPositiveBy (walkOf b (suc n)) (b .simulation .grid .total)) 1 0
 
 -- Rule 9.4: the observation of path p at the end of segment j
 unfoldable pub observation : Batch → ℕ → ℕ → Float
 unfolding stateAfter
-observation b p j = b .observe (stateAfter (walkOf b p) (lastStep (b .simulation .schedule) j))
+observation b p j = b .observe (stateAfter (walkOf b p) (lastStep (b .simulation .grid) j))

@@ -46,7 +46,7 @@ pricedFrom w b table =
     onceAsked
     (firstNo
     (lastQuestions (b .observation .observed)
-    (lastObservation table (b .simulation .schedule .count))
+    (lastObservation table (b .simulation .grid .count))
     (b .paths)))
     (refusedAfter (w .steps)) (reportedOf w (b .paths))
 
@@ -62,11 +62,11 @@ pub record BatchPriced (b : Batch) (payoff : Payoff) (lent after : List Float) (
 
 -- ---- with its questions
 
--- what the questions before 19 leave: an admitted simulation, a schedule laid end to end, and a form
--- in no more factors than there are
+-- what the questions before 19 leave: an admitted simulation, a schedule laid end to end, and a
+-- form in no more factors than there are
 pub record Ready (b : Handed) : Type 0 where
   pub admitted : Admitted (simulationInUse (b .simulation))
-  pub laid : Laid (b .simulation .schedule)
+  pub laid : Laid (b .simulation .grid)
   pub form : b .observation .form .n ≤ b .simulation .kernel .n
 
 -- 19 to 21, and the price where they are passed
@@ -75,6 +75,6 @@ abbrev pub PricedOnceAsked :
 PricedOnceAsked b payoff draws lent after r =
     BatchAnswered (λ x. x) (answerOf (batchOf b draws))
     (firstNo
-    (batchQuestions (b .simulation .schedule) (b .mirrored) (b .paths) (length draws)
+    (batchQuestions (b .simulation .grid) (b .mirrored) (b .paths) (length draws)
     (length lent)))
     (batchOf b draws) payoff lent after r

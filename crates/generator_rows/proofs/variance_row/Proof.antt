@@ -9,7 +9,7 @@ use lib.ListN.{length, set, length-set}
 use lib.Ieee.{Float, ofBits}
 use Rattle.numeric.specs.Double.{plusZero}
 use Rattle.model.specs.declared.Kernel.{Kernel}
-use Rattle.model.specs.declared.RawParams.{RawParams}
+use Rattle.model.specs.declared.Params.{Params}
 use Rattle.model.specs.Inner.InUse.{kernelInUse}
 use Rattle.generator_rows.specs.Inner.Appended.{Appended}
 use Rattle.generator_rows.specs.State.{pairsBefore, dimension, integralAt, pairsOfRows, InOrder}
@@ -20,10 +20,10 @@ use Rattle.generator_rows.proofs.Order.{variance-in-order}
 use Rattle.generator_rows.proofs.variance_row.Statement.{statement}
 use Rattle.generator_rows.proofs.variance_row.Tie as tie
 
-abbrev coefficient : Kernel → RawParams → ℕ → ℕ → List Float
+abbrev coefficient : Kernel → Params → ℕ → ℕ → List Float
 coefficient k p i j = pairCoefficient (kernelInUse k) p i j ∷ []
 
-abbrev InVarianceOrder : Kernel → RawParams → List Float → Type 0
+abbrev InVarianceOrder : Kernel → Params → List Float → Type 0
 InVarianceOrder k p row =
     InOrder (k .n) (meanCoefficient (kernelInUse k) p) (pairCoefficient (kernelInUse k) p) plusZero
     (constantCoefficient p) row

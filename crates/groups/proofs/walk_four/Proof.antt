@@ -9,14 +9,14 @@ use borrow.Author.Tests.{not-false}
 use lib.ListN.{length, getD}
 use lib.Ieee.{Float, nan}
 use Rattle.model.specs.declared.Kernel.{Kernel}
-use Rattle.model.specs.declared.RawParams.{RawParams}
-use Rattle.model.specs.declared.Schedule.{Schedule}
+use Rattle.model.specs.declared.Params.{Params}
+use Rattle.model.specs.declared.TimeGrid.{TimeGrid}
 use Rattle.model.specs.declared.State.{State}
 use Rattle.model.specs.Inner.Rates.{RatesOf}
 use Rattle.lanes.specs.Inner.Lanes.{laneOf}
 use Rattle.model.specs.Inner.Laid.{Laid}
-use Rattle.model.specs.Schedule.{lastStep, dtAt, sqrtDtAt}
-use Rattle.model.specs.Inner.InUse.{scheduleInUse}
+use Rattle.model.specs.TimeGrid.{lastStep, dtAt, sqrtDtAt}
+use Rattle.model.specs.Inner.InUse.{gridInUse}
 use Rattle.model.proofs.Laws.{rates-own}
 use Rattle.model.proofs.Containment.{laid-in-use, reached-open}
 use lib.Seq.{getD-take}
@@ -33,10 +33,10 @@ use Rattle.groups.proofs.walk_four.Statement.{statement}
 use Rattle.groups.proofs.walk_four.Tie as tie
 
 -- the batch, but for its start
-abbrev sideBatch : Kernel → RawParams → State → Schedule → Observation → Bool → ℕ → List Float → Batch
+abbrev sideBatch : Kernel → Params → State → TimeGrid → Observation → Bool → ℕ → List Float → Batch
 sideBatch k p start sched observation mirrored paths draws =
     record {
-      simulation = record { kernel = kernelInUse k; raw = p; start = start; schedule = scheduleInUse sched };
+      simulation = record { kernel = kernelInUse k; params = p; start = start; grid = gridInUse sched };
       observed = observation .observed;
       observe = observeBy observation;
       paths = paths;
@@ -85,10 +85,10 @@ step-of c = c .before .before .before .before .before .before
 abbrev flagged-of : tie.After-slice-known2 Inv-loop μ-loop → Flagged
 flagged-of c = c .before .before .before .before .before .before .before .before
 
-laid-at : (c : Entry) → Laid (scheduleInUse (c .args .batch .simulation .schedule))
-laid-at c = laid-in-use (c .args .batch .simulation .schedule) (c .pre .laid)
+laid-at : (c : Entry) → Laid (gridInUse (c .args .batch .simulation .grid))
+laid-at c = laid-in-use (c .args .batch .simulation .grid) (c .pre .laid)
 
-open-at : (c : Turn) → c .before .loop .segment < entry (c .before) .args .batch .simulation .schedule .count
+open-at : (c : Turn) → c .before .loop .segment < entry (c .before) .args .batch .simulation .grid .count
 open-at c = reached-open _ (laid-at (entry (c .before))) _ _ (c .before .loop .inv .0 0 .reached) (c .loop-test .taken)
 
 long-start : (c : Entry) → length (c .args .batch .simulation .start .factors) ≡ 10
@@ -197,14 +197,14 @@ module _ (c : Flagged) where
   given = entry head
 
   -- each lane's state is that of the plain walk
-  stepped : (l : ℕ) → l < 4 → laneOf (given .args .batch .simulation .kernel .n) (step-of c .try-step .result .lanes) (step-of c .try-step .last .1 .1 .1 .1 .1 .0) l ≡ step (kernelInUse (given .args .batch .simulation .kernel)) (given .args .batch .simulation .raw) (laneOf (given .args .batch .simulation .kernel .n) (head .loop .s) (head .loop .factors) l) (drawOf (given .args .batch .mirrored) (given .args .draws .now) (given .args .batch .simulation .schedule .total) (suc (given .args .path + l)) (suc (head .loop .at))) (dtAt (scheduleInUse (given .args .batch .simulation .schedule)) (suc (head .loop .at))) (sqrtDtAt (scheduleInUse (given .args .batch .simulation .schedule)) (suc (head .loop .at)))
+  stepped : (l : ℕ) → l < 4 → laneOf (given .args .batch .simulation .kernel .n) (step-of c .try-step .result .lanes) (step-of c .try-step .last .1 .1 .1 .1 .1 .0) l ≡ step (kernelInUse (given .args .batch .simulation .kernel)) (given .args .batch .simulation .params) (laneOf (given .args .batch .simulation .kernel .n) (head .loop .s) (head .loop .factors) l) (drawOf (given .args .batch .mirrored) (given .args .draws .now) (given .args .batch .simulation .grid .total) (suc (given .args .path + l)) (suc (head .loop .at))) (dtAt (gridInUse (given .args .batch .simulation .grid)) (suc (head .loop .at))) (sqrtDtAt (gridInUse (given .args .batch .simulation .grid)) (suc (head .loop .at)))
   stepped l h =
-      step-in-use (given .args .batch .simulation .schedule) (given .pre .laid) _ _ (head .loop .inv .0 0 .reached) (open-at (turn-of (step-of c))) (given .args .batch .simulation .kernel) (head .loop .rates) (head .loop .inv .1) _ _ _ _ _ _ (step-of c .before .before .draws-at .ensures l h)
+      step-in-use (given .args .batch .simulation .grid) (given .pre .laid) _ _ (head .loop .inv .0 0 .reached) (open-at (turn-of (step-of c))) (given .args .batch .simulation .kernel) (head .loop .rates) (head .loop .inv .1) _ _ _ _ _ _ (step-of c .before .before .draws-at .ensures l h)
       (step-of c .try-step .ensures .lane (not-false _ (c .before .before .before .if1 .left)) l h)
 
   -- the last step of the segment
-  last-now : getD (given .args .batch .simulation .schedule .last) (head .loop .segment) 0 ≡ lastStep (scheduleInUse (given .args .batch .simulation .schedule)) (suc (head .loop .segment))
-  last-now = sym (getD-take (given .args .batch .simulation .schedule .count) (given .args .batch .simulation .schedule .last) _ 0 (open-at (turn-of (step-of c))))
+  last-now : getD (given .args .batch .simulation .grid .last) (head .loop .segment) 0 ≡ lastStep (gridInUse (given .args .batch .simulation .grid)) (suc (head .loop .segment))
+  last-now = sym (getD-take (given .args .batch .simulation .grid .count) (given .args .batch .simulation .grid .last) _ 0 (open-at (turn-of (step-of c))))
 
 loop-less : tie.Need-loop-less Inv-loop μ-loop
 loop-less c = omega arith
@@ -261,7 +261,7 @@ returns-3 c =
     let e = entry h in
     let b = e .args .batch in (
       h .loop .inv .0 0 .wide,
-      subst (λ (x : State). FourWalked (sideBatch (b .simulation .kernel) (b .simulation .raw) x (b .simulation .schedule) (b .observation) (b .mirrored) (b .paths) (e .args .draws .now)) (e .args .path) (h .loop .rows) (c .set-flags .result))
+      subst (λ (x : State). FourWalked (sideBatch (b .simulation .kernel) (b .simulation .params) x (b .simulation .grid) (b .observation) (b .mirrored) (b .paths) (e .args .draws .now)) (e .args .path) (h .loop .rows) (c .set-flags .result))
           (all-start (h .before .before) 0 (omega arith))
           (beside-done (laid-at e) (h .loop .inv .0 (b .paths)) (c .before .before .before .loop-test .left) _ (c .set-flags .ensures .0)
           (c .set-flags .ensures .1) (c .before .before .all-finite .ensures (not-false _ (c .before .if3 .left)))),

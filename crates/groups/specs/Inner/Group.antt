@@ -23,11 +23,11 @@ use Rattle.groups.specs.declared.Together.the-variants.{Walked, Unsure}
 -- and `rows` has their observations
 pub record FourWalked (b : Batch) (path : ℕ) (rows : List Float) (low : ℕ) : Type 0 where
   pub going : (l : ℕ) → l < 4
-      → stopWithin (walkOf b (suc (path + l))) (b .simulation .schedule .total) ≡ none
+      → stopWithin (walkOf b (suc (path + l))) (b .simulation .grid .total) ≡ none
   pub fallen : nonPositivePaths b (path + 4) ≡ nonPositivePaths b path + low
   pub few : low ≤ 4
-  pub seen : (l j : ℕ) → l < 4 → j < b .simulation .schedule .count
-      → getD rows (l * b .simulation .schedule .count + j) nan
+  pub seen : (l j : ℕ) → l < 4 → j < b .simulation .grid .count
+      → getD rows (l * b .simulation .grid .count + j) nan
       ≡ observation b (suc (path + l)) (suc j)
 
 -- the same where the four are walked; where it is not sure, nothing is said
@@ -39,11 +39,11 @@ Walks b path rows Unsure = Unit {0}
 pub record GroupPrepared (b : Handed) (path : ℕ) (draws rows : List Float) : Type 0 where
   pub few : b .simulation .kernel .n ≤ 10
   pub form : b .observation .form .n ≤ b .simulation .kernel .n
-  pub laid : Laid (b .simulation .schedule)
+  pub laid : Laid (b .simulation .grid)
   pub most : path ≤ 65536
   pub drawn : (l : ℕ) → l < 4
-      → drawPlace (b .mirrored) (b .simulation .schedule .total) (suc (path + l))
-      (suc (b .simulation .schedule .total))
+      → drawPlace (b .mirrored) (b .simulation .grid .total) (suc (path + l))
+      (suc (b .simulation .grid .total))
       ≤ length draws
   pub rows-long : length rows ≡ 256
 

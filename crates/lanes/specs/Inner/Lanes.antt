@@ -11,7 +11,7 @@ use Rattle.numeric.specs.Root.{root}
 use Rattle.numeric.specs.Table.{tabulate}
 use Rattle.model.specs.declared.Kernel.{Kernel}
 use Rattle.model.specs.declared.Rates.{Rates}
-use Rattle.model.specs.declared.RawParams.{RawParams}
+use Rattle.model.specs.declared.Params.{Params}
 use Rattle.model.specs.declared.State.{State}
 use Rattle.model.specs.Step.{weightedSum, step}
 use Rattle.model.specs.Inner.InUse.{kernelInUse}
@@ -60,7 +60,7 @@ pub record LanesMoved (n : ℕ) (forcing divisors weights before after z : List 
   pub sum : (l : ℕ) → l < 4 → getD z l nan ≡ weightedSum weights (laneFactors n after l) n
 
 -- Rule 7.2: lane l takes a step of the scheme
-abbrev pub LaneSteps : Kernel → RawParams → Lanes → List Float → Rates → List Float → List Float
+abbrev pub LaneSteps : Kernel → Params → Lanes → List Float → Rates → List Float → List Float
     → Lanes → ℕ → Type 0
 LaneSteps k p s g rates before after next l =
     laneOf (k .n) next after l
@@ -68,14 +68,14 @@ LaneSteps k p s g rates before after next l =
     (rates .«sqrt_dt»)
 
 -- Rule 7.2: each lane takes a step where it is given the root of its variance
-pub record LanesStepped (roots : List Float) (k : Kernel) (p : RawParams) (s : Lanes)
+pub record LanesStepped (roots : List Float) (k : Kernel) (p : Params) (s : Lanes)
     (g : List Float) (rates : Rates) (before after : List Float) (next : Lanes) : Type 0 where
   pub long : length after ≡ length before
   pub lane : (l : ℕ) → l < 4 → getD roots l nan ≡ root binary64 (getD (s .variance) l nan)
       → LaneSteps k p s g rates before after next l
 
 -- Rule 7.2: each lane takes a step where the answer is sure
-pub record StepTried (k : Kernel) (p : RawParams) (s : Lanes) (g : List Float) (rates : Rates)
+pub record StepTried (k : Kernel) (p : Params) (s : Lanes) (g : List Float) (rates : Rates)
     (before after : List Float) (tried : Tried) : Type 0 where
   pub long : length after ≡ length before
   pub lane : tried .sure ≡ true → (l : ℕ) → l < 4

@@ -7,7 +7,7 @@ use lib.IntN.{pos}
 use lib.ListN.{getD}
 use lib.Ieee.{Float, nan, fin, binary64, fits, le}
 use Rattle.numeric.specs.Double.{magnitude}
-use Rattle.model.specs.declared.RawParams.{RawParams}
+use Rattle.model.specs.declared.Params.{Params}
 use Rattle.model.specs.declared.State.{State}
 use Rattle.model.specs.declared.Simulation.{Simulation}
 use Rattle.model.specs.Kernel.{inRange}
@@ -21,7 +21,7 @@ pub record Converted (x : Float) : Type 0 where
 
 -- Rules 14.4 and 5.4: a is not negative, and each Decimal of the parameters, with n factors, is
 -- converted
-pub record ParamsReady (n : ℕ) (p : RawParams) (start : State) : Type 0 where
+pub record ParamsReady (n : ℕ) (p : Params) (start : State) : Type 0 where
   pub a-not-negative : magnitude (p .a) ≡ p .a
   pub a : Converted (p .a)
   pub b : Converted (p .b)
@@ -36,5 +36,5 @@ pub record ParamsReady (n : ℕ) (p : RawParams) (start : State) : Type 0 where
 pub record Admitted (s : Simulation) : Type 0 where
   pub few : s .kernel .n ≤ 10
   pub weight : (i : ℕ) → i < s .kernel .n → inRange (getD (s .kernel .weights) i nan) ≡ true
-  pub params : ParamsReady (s .kernel .n) (s .raw) (s .start)
-  pub start-read : s .start ≡ read (s .kernel) (s .raw) (s .start .spot) (s .start .factors)
+  pub params : ParamsReady (s .kernel .n) (s .params) (s .start)
+  pub start-read : s .start ≡ read (s .kernel) (s .params) (s .start .spot) (s .start .factors)

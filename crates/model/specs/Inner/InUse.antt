@@ -4,7 +4,7 @@ use Prim.Native.Nat.{ℕ}
 use lib.ListN.{take}
 use Rattle.model.specs.declared.Kernel.{Kernel}
 use Rattle.model.specs.declared.State.{State}
-use Rattle.model.specs.declared.Schedule.{Schedule}
+use Rattle.model.specs.declared.TimeGrid.{TimeGrid}
 use Rattle.model.specs.declared.Simulation.{Simulation}
 
 -- Rule 5.2: the first n weights and discounts
@@ -22,8 +22,8 @@ stateInUse n s =
     record { spot = s .spot; z = s .z; variance = s .variance; factors = take n (s .factors) }
 
 -- Rule 6.2: the segments that there are
-abbrev pub scheduleInUse : Schedule → Schedule
-scheduleInUse sc =
+abbrev pub gridInUse : TimeGrid → TimeGrid
+gridInUse sc =
     record {
       count = sc .count;
       total = sc .total;
@@ -37,7 +37,7 @@ abbrev pub simulationInUse : Simulation → Simulation
 simulationInUse s =
     record {
       kernel = kernelInUse (s .kernel);
-      raw = s .raw;
+      params = s .params;
       start = stateInUse (s .kernel .n) (s .start);
-      schedule = scheduleInUse (s .schedule);
+      grid = gridInUse (s .grid);
     }

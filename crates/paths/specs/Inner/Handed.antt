@@ -26,11 +26,11 @@ use Rattle.paths.specs.Run.{RunStop, runStop, stepsAt, refusalAt, tableA
 pub record Prepared (b : Handed) (draws observations : List Float) : Type 0 where
   pub admitted : Admitted (simulationInUse (b .simulation))
   pub form : b .observation .form .n ≤ b .simulation .kernel .n
-  pub laid : Laid (b .simulation .schedule)
+  pub laid : Laid (b .simulation .grid)
   pub most : b .paths ≤ 65536
   pub pairs : b .mirrored ≡ true → b .paths % 2 ≡ 0
-  pub drawn : length draws ≡ drawsNeeded (b .mirrored) (b .paths) (b .simulation .schedule .total)
-  pub rows : length observations ≡ b .paths * b .simulation .schedule .count
+  pub drawn : length draws ≡ drawsNeeded (b .mirrored) (b .paths) (b .simulation .grid .total)
+  pub rows : length observations ≡ b .paths * b .simulation .grid .count
 
 -- ---- the last column
 
@@ -48,7 +48,7 @@ withRows tally payoff observed rows count (suc n) =
 
 -- what path p of a batch shows a payoff
 abbrev pub underlyingIn : Batch → ℕ → Float
-underlyingIn b p = underlyingOf (b .observed) (observation b p (b .simulation .schedule .count))
+underlyingIn b p = underlyingOf (b .observed) (observation b p (b .simulation .grid .count))
 
 -- ---- the run
 
@@ -57,7 +57,7 @@ abbrev pub walkedOf : Batch → Payoff → Walked
 walkedOf b payoff =
     record {
       «non_positive» = nonPositivePaths b (b .paths);
-      steps = b .paths * b .simulation .schedule .total;
+      steps = b .paths * b .simulation .grid .total;
       tally = tallyOf payoff (underlyingIn b) (b .paths);
     }
 

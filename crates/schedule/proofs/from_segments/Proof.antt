@@ -1,4 +1,5 @@
--- `schedule::from_segments` meets its contract. After i segments, each is asked, converted and laid after the one before. Assumes nothing.
+-- `schedule::from_segments` meets its contract. After i segments, each is asked, converted and laid
+-- after the one before. Assumes nothing.
 use mathlib.Core.Path.{refl, sym, _∙_}
 use Prim.Native.Nat.{_≤_, _-_}
 use native.Mathlib.Omega.{arith}

@@ -6,7 +6,7 @@ use borrow.Author.Needs.{needs}
 use Rattle.refusal.specs.declared.Outcome.the-variants.{Passed}
 use Rattle.refusal.proofs.Laws.{no, yes}
 use Rattle.model.specs.Simulation.{given}
-use Rattle.doors.specs.Inner.Doors.{SimulationReady}
+use Rattle.admission.specs.Inner.Admission.{SimulationReady}
 use Rattle.trace.specs.Trace.{Tables, tables}
 use Rattle.trace.specs.Call.{TraceInputs, traceInputs}
 use Rattle.trace.proofs.Answers.{sized, model-refused, draws-refused, tables-refused, walked}
@@ -26,7 +26,7 @@ asked c = c .before .before .before
 abbrev inputs : tie.Start → TraceInputs
 inputs c =
     traceInputs
-    (given (c .args .weights .now) (c .args .discounts .now) (c .args .params) (c .args .segments))
+    (given (c .args .weights .now) (c .args .discounts .now) (c .args .model) (c .args .schedule))
     (c .args .draws .now)
 
 abbrev lent : tie.Start → Tables
@@ -107,7 +107,7 @@ walk-requires c κs =
         ready here .laid,
         (
           last .before .before .if1 .left,
-          sized (simulation .schedule .total) (simulation .kernel .n) (lent (entry (door here)))
+          sized (simulation .grid .total) (simulation .kernel .n) (lent (entry (door here)))
               (yes (last .before .lengths-right .ensures) (last .if2 .left)),
         ),
       ),

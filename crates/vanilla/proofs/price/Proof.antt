@@ -17,9 +17,9 @@ start c = c .before .before .before .before .before
 abbrev inputs : tie.After-prepare → VanillaInputs
 inputs c =
     let args = start c .args in
-    vanillaInputs (given (args .weights .now) (args .discounts .now) (args .params) (args .segments)) (args .order) (args .draws .now)
+    vanillaInputs (given (args .weights .now) (args .discounts .now) (args .model) (args .schedule)) (args .order) (args .draws .now)
 
--- the outcome of the first doors
+-- the outcome of the first questions
 first : (c : tie.After-or-later) → c .or-later .result ≡ orLater (c .before .before .prepare .result .outcome) (firstNo (strikeQuestions (start (c .before .before) .args .order .strike)))
 first c = c .or-later .ensures ∙ ap (orLater (c .before .before .prepare .result .outcome)) (c .before .strike-questions .ensures)
 

@@ -1,4 +1,4 @@
--- The form as the code has it, and what its door answers. Definitions only.
+-- The form as the code has it, and what its admission answers. Definitions only.
 use mathlib.Core.Path.{_≡_}
 use mathlib.Core.List.{List}
 use Prim.Native.Nat.{ℕ}
@@ -10,10 +10,10 @@ use Rattle.decimal.specs.Decimal.{value}
 use Rattle.refusal.specs.declared.Outcome.the-variants.{Passed}
 use Rattle.refusal.specs.Questions.{firstNo, KeptUnlessPassed}
 use Rattle.model.specs.declared.Kernel.{Kernel}
-use Rattle.model.specs.declared.RawParams.{RawParams}
+use Rattle.model.specs.declared.Params.{Params}
 use Rattle.generator_rows.specs.State.{pairsBefore}
 use Rattle.vix.specs.declared.Vix.{Vix}
-use Rattle.vix.specs.declared.FormDoor.{FormDoor}
+use Rattle.vix.specs.declared.FormAdmission.{FormAdmission}
 use Rattle.vix.specs.Build.{vixOf}
 use Rattle.vix.specs.Questions.{windowQuestions, formQuestions}
 
@@ -40,10 +40,10 @@ noForm n =
       pairs = replicate 55 plusZero;
     }
 
--- What the door of the form answers: its outcome and, where all got a Yes, the form. The workspace
--- is as lent unless 15, 1 and 16 are passed.
-pub record FormPrepared (k : Kernel) (p : RawParams) (window : Decimal) (lent after : List Float)
-    (r : FormDoor) : Type 0 where
+-- What the admission of the form answers: its outcome and, where all got a Yes, the form. The
+-- workspace is as lent unless 15, 1 and 16 are passed.
+pub record FormPrepared (k : Kernel) (p : Params) (window : Decimal) (lent after : List Float)
+    (r : FormAdmission) : Type 0 where
   pub outcome : r .outcome ≡ firstNo (formQuestions k p window (length lent))
   pub ready : r .outcome ≡ Passed → vixInUse (r .form) ≡ vixOf k p (value window)
   pub workspace : KeptUnlessPassed (firstNo (windowQuestions (k .n) window (length lent)))

@@ -26,7 +26,7 @@ start c = entry (c .before .before)
 -- ---- what is given
 abbrev inputs : tie.Start → VixBatchInputs
 inputs c =
-    vixBatchInputs (given (c .args .weights .now) (c .args .discounts .now) (c .args .params) (c .args .segments)) (c .args .order) (c .args .draws .now)
+    vixBatchInputs (given (c .args .weights .now) (c .args .discounts .now) (c .args .model) (c .args .schedule)) (c .args .order) (c .args .draws .now)
 
 -- the outcome of the form's questions and the payoff's
 second : (c : tie.After-or-later) → c .or-later .result ≡ orLater (form c .prepare2 .result .outcome) (firstNo (payoffQuestions (start (model (form c)) .args .order .payoff)))

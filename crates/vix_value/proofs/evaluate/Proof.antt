@@ -1,4 +1,4 @@
--- `vix_value::evaluate` meets its contract: the doors one after the other, and then the form at the
+-- `vix_value::evaluate` meets its contract: one admission after the other, and then the form at the
 -- factors given (`proofs/Evaluating.antt`). Assumes nothing.
 use mathlib.Core.Path.{_≡_, sym, _∙_}
 use borrow.Author.Needs.{needs}
@@ -9,7 +9,7 @@ use Rattle.vix_value.proofs.Evaluating.{refused-early, refused-late, fo
 use Rattle.vix_value.proofs.evaluate.Statement.{statement}
 use Rattle.vix_value.proofs.evaluate.Tie as tie
 
--- ---- the places: the entry, the tables, the parameters, and the door of the form
+-- ---- the places: the entry, the tables, the parameters, and the admission of the form
 abbrev entry : tie.After-tables → tie.Start
 entry c = c .before .before .before .before
 
@@ -24,7 +24,7 @@ door c = c .before .before
 
 abbrev inputs : tie.Start → VixInputs
 inputs c =
-    vixInputs (c .args .weights .now) (c .args .discounts .now) (c .args .params) (c .args .window)
+    vixInputs (c .args .weights .now) (c .args .discounts .now) (c .args .model) (c .args .window)
     (c .args .given)
 
 passed :

@@ -30,8 +30,8 @@ returns c =
 enum-told : tie.Need-enum-told
 enum-told c = search needs
 
-raw-factors-requires : tie.Need-raw-factors-requires
-raw-factors-requires c κs = search needs
+factors-of-requires : tie.Need-factors-of-requires
+factors-of-requires c κs = search needs
 
 evaluate-requires : tie.Need-evaluate-requires
 evaluate-requires c κs = search needs
@@ -50,7 +50,7 @@ returns-2 c =
     (sym (asked .given-questions .ensures) ∙ told .enum-told .given .1) (value .evaluate .result)
     (value .evaluate .ensures
     ∙ ap (λ (l : List Float). evaluation (vixInUse (args .form)) l)
-    (value .before .raw-factors .ensures))
+    (value .before .factors-of .ensures))
 
 pub value-at-spec : {M : Type 1} → statement M
 value-at-spec =
@@ -61,7 +61,7 @@ value-at-spec =
     refused-requires
     returns
     enum-told
-    raw-factors-requires
+    factors-of-requires
     evaluate-requires
     answered-requires
     returns-2)

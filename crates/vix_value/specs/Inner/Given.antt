@@ -1,6 +1,6 @@
 -- A form at the factors given. Definitions only.
 use Rattle.refusal.specs.Questions.{firstNo, onceAsked}
-use Rattle.model.specs.Parameters.{rawFactors}
+use Rattle.model.specs.Parameters.{factorsOf}
 use Rattle.vix.specs.declared.Vix.{Vix}
 use Rattle.vix.specs.Evaluation.{evaluation}
 use Rattle.vix_value.specs.declared.Factors.{Factors}
@@ -10,7 +10,7 @@ use Rattle.vix_value.specs.Call.{givenQuestions}
 
 -- the form at them, once they are asked
 unfoldable pub valueAt : Vix → Factors → VixValue
-unfolding givenQuestions evaluation rawFactors
+unfolding givenQuestions evaluation factorsOf
 valueAt form given =
     onceAsked (firstNo (givenQuestions (form .n) given)) refusedValue
-    (evaluatedValue (evaluation form (rawFactors (form .n) (given .factors))))
+    (evaluatedValue (evaluation form (factorsOf (form .n) (given .factors))))

@@ -1,4 +1,5 @@
--- `pricing::check_squared` meets its contract. The loop's invariant: the paths passed got a Yes. Assumes nothing.
+-- `pricing::check_squared` meets its contract. The loop's invariant: the paths passed got a Yes.
+-- Assumes nothing.
 use mathlib.Core.Path.{_≡_, sym, subst}
 use Prim.Native.Nat.{ℕ, _-_, _≤_}
 use native.Mathlib.Omega.{arith}

@@ -25,14 +25,14 @@ enum-told : tie.Need-enum-told
 enum-told c = search needs
 
 -- 19 and 20 are passed
-passed : (c : tie.After-enum-told) → firstNo (pathQuestions (c .before .before .before .before .before .args .batch .simulation .schedule) (c .before .before .before .before .before .args .batch .mirrored) (c .before .before .before .before .before .args .batch .paths) (c .before .before .before .before .before .args .drawn)) ≡ Passed
+passed : (c : tie.After-enum-told) → firstNo (pathQuestions (c .before .before .before .before .before .args .batch .simulation .grid) (c .before .before .before .before .before .args .batch .mirrored) (c .before .before .before .before .before .args .batch .paths) (c .before .before .before .before .before .args .drawn)) ≡ Passed
 passed c = sym (c .before .before .path-questions .ensures) ∙ c .enum-told .given .1
 
 mul-rows : tie.Need-mul-rows
 mul-rows c =
     let asked = c .before .before .before .before in
     let args = asked .before .before .before .args in
-    omega (arith, product-small (args .batch .paths) (args .batch .simulation .schedule .count) (paths-most _ _ (paths-passed _ _ _ _ (passed (c .before .before)))) (omega (arith, asked .before .before .before .pre .few)))
+    omega (arith, product-small (args .batch .paths) (args .batch .simulation .grid .count) (paths-most _ _ (paths-passed _ _ _ _ (passed (c .before .before)))) (omega (arith, asked .before .before .before .pre .few)))
 
 ask-requires : tie.Need-ask-requires
 ask-requires c κs = search needs

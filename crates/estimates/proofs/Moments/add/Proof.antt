@@ -1,6 +1,7 @@
--- `Moments::add` meets its contract: a walk of its MIR, by hand. The borrow is opened, the three numbers are read, `with_value` is called on them and on the value, what it returns is stored whole, and the borrow is closed at that record.
--- All that the proof knows of `with_value` is that it meets its contract.
--- Assumes nothing.
+-- `Moments::add` meets its contract: a walk of its MIR, by hand. The borrow is opened, the three
+-- numbers are read, `with_value` is called on them and on the value, what it returns is stored
+-- whole, and the borrow is closed at that record. All that the proof knows of `with_value` is that
+-- it meets its contract. Assumes nothing.
 use mathlib.Core.Path.{_≡_, refl}
 use Prim.Native.Nat.{ℕ}
 use mathlib.Core.Bool.{true}
@@ -101,7 +102,8 @@ module _ {M : Type 1} (𝓤 : URA M) (H : Heap 𝓤) (A : Atoms 𝓤) (W : Given
         qed W [] ∵ nothing ! $ owned ! f64 (Is f64) (float-makes 𝓤 H A W binary64) n _ (refl, n-fits) $ fjoin ! $ owned ! f64 (Is f64) (float-makes 𝓤 H A W binary64) (h .«squared_deviations») _ (refl, deviations-fit) $ fjoin ! $
         owned ! f64 (Is f64) (float-makes 𝓤 H A W binary64) (h .mean) _ (refl, mean-fits) $ fjoin ! $ owned ! f64 (Is f64) (float-makes 𝓤 H A W binary64) (h .count) _ (refl, count-fits) $ fjoin ! $ nothing ! $ join ! $ frame ! $ done !
 
-  -- of the callee's `ensured`, the clause alone: it has no `&mut`, so what is said of last values is dropped
+  -- of the callee's `ensured`, the clause alone: it has no `&mut`, so what is said of last values
+  -- is dropped
   said : (r : Moments) → ent 𝓤 (ensured 𝓤 H A with-value.ended (with-value.clauses 𝓤 H A at-mem run) tt numbers tt r) (fact 𝓤 (r ≡ withValue h n))
   said r = exE 𝓤 _ (λ ws. snd∗ 𝓤 (sem 𝓤 H A (lasts with-value.ended tt numbers ws)) (fact 𝓤 (r ≡ withValue h n)))
 
@@ -121,7 +123,8 @@ module _ {M : Type 1} (𝓤 : URA M) (H : Heap 𝓤) (A : Atoms 𝓤) (W : Given
         alloc1 ! (λ l₀. alloc1 ! (λ l₁. alloc1 ! (λ l₂. alloc1 ! (λ l₃. alloc1 ! (λ l₄. alloc1 ! (λ l₅. alloc1 ! (λ l₆. alloc0 ! $ params1 ! $ pass1 ! (init ! 10 refl (tt, tt)) $ pass1 ! (init ! 8 refl (tt, passes _ n-fits)) $ pass0 ! $
         move ! (14 ∷ 15 ∷ 16 ∷ []) $ opens ! tt T.the-row {h = h} b o (λ vs. spelt ! T.the-row (Is T.the-row) (shows 𝓤 H A T.the-row) (LL.vals T.the-type T′.the-laws) (LL.tells T.the-type T′.the-laws) fullShare h vs b o $
         move ! (1 ∷ []) $ peeks ! T.the-row (Is T.the-row) (shows 𝓤 H A T.the-row) h mach (λ was. drop ! $
-        -- [the struct's cell; the open borrow; obs; auth; _6; …; _5; …; _4; …; _3; …; _2; …; _1; …; room for _0; …]
+        -- [the struct's cell; the open borrow; obs; auth; _6; …; _5; …; _4; …; _3; …; _2; …; _1; …;
+        -- room for _0; …]
         assigns ! (of-opd ! (load ! (from ! (hop ! (look ! 14 refl) (fld ! refl (stop !)))) (look-in ! 0 (sub ! 0 refl (whole !))))) (from ! (stop !)) (init ! 8 refl (tt, passes _ (count-fits was))) $
         assigns ! (of-opd ! (load ! (from ! (hop ! (look ! 14 refl) (fld ! refl (stop !)))) (look-in ! 0 (sub ! 1 refl (whole !))))) (from ! (stop !)) (init ! 6 refl (tt, passes _ (mean-fits was))) $
         assigns ! (of-opd ! (load ! (from ! (hop ! (look ! 14 refl) (fld ! refl (stop !)))) (look-in ! 0 (sub ! 2 refl (whole !))))) (from ! (stop !)) (init ! 4 refl (tt, passes _ (deviations-fit was))) $
@@ -130,7 +133,8 @@ module _ {M : Type 1} (𝓤 : URA M) (H : Heap 𝓤) (A : Atoms 𝓤) (W : Given
         use1 W (later (some (λ (r : Moments). (‵ ftrue ⊛ ‵ (T.the-row .own r (u ∷ []))) ⊛ raw (ensured 𝓤 H A with-value.ended (with-value.clauses 𝓤 H A at-mem run) tt numbers tt r)))) (id⊢ 𝓤 _) $ await ! tt $ pick ! (λ r.
         split ! $ move ! (1 ∷ []) $ use1 W (raw (fact 𝓤 (r ≡ withValue h n))) (said r) $ heard ! (r ≡ withValue h n) (λ e. split ! $ drop ! $
         peeks ! T.the-row (Is T.the-row) (shows 𝓤 H A T.the-row) r (u ∷ []) (λ is.
-        -- [what the result owns; the struct's cell; the open borrow; obs; auth; _6; …; _5; …; _4; …; room for _3; …; _2; …; _1; …; room for _0; …]
+        -- [what the result owns; the struct's cell; the open borrow; obs; auth; _6; …; _5; …; _4;
+        -- …; room for _3; …; _2; …; _1; …; room for _0; …]
         land ! (from ! (stop !)) (init ! 11 refl (LL.lawful T.the-type T′.the-laws 𝓤 H A W .typed r _ is .0)) $
         assigns ! (of-opd ! (load ! (from ! (stop !)) (look ! 11 refl))) (from ! (hop ! (look ! 15 refl) (stop !))) (store-raw ! 1 refl (LL.lawful T.the-type T′.the-laws 𝓤 H A W .typed r _ is .0)) $
         assigns ! (of-opd ! (unit-lit !)) (from ! (stop !)) (init ! 17 refl (tt, tt)) $

@@ -1,6 +1,7 @@
--- `welford::added` meets its contract: a walk of its MIR, by hand. The local is lent to `Moments::add` for a lifetime that is made for the call, comes back at the last value that the contract of `add` says, and is returned.
--- All that the proof knows of `add` is that it meets its contract.
--- Assumes nothing.
+-- `welford::added` meets its contract: a walk of its MIR, by hand. The local is lent to
+-- `Moments::add` for a lifetime that is made for the call, comes back at the last value that the
+-- contract of `add` says, and is returned. All that the proof knows of `add` is that it meets its
+-- contract. Assumes nothing.
 use mathlib.Core.Path.{_≡_, refl}
 use Prim.Native.Nat.{ℕ}
 use mathlib.Core.Bool.{true}
@@ -103,19 +104,22 @@ module _ {M : Type 1} (𝓤 : URA M) (H : Heap 𝓤) (A : Atoms 𝓤) (W : Given
         lft-new ! tt (λ α. move ! (1 ∷ []) $
         use1 W (later (some (λ (δ : GName). ‵ (MutRef (named 0) (α ∷ []) T.the-row .own (lent l₃ δ) (vptr l₃ 0 ∷ [])) ⊛ ‵ (flent (α ∷ []) (Body (mem T.the-row) l₃ 0 δ))))) (lends-ref 𝓤 H A W T.the-row (named 0) (α ∷ []) m l₃ 0) $ await ! tt $ pick ! (λ δ. split ! $
         move ! (2 ∷ 0 ∷ []) $ use2 W (raw (Add 𝓤 H A at-mem run .pre (to α l₃ δ))) (goes α l₃ δ) $
-        -- [what `add` asks; the lender's part; _5; …; room for _4; …; what frees _3; _2; …; _1; …; room for _0; …]
+        -- [what `add` asks; the lender's part; _5; …; room for _4; …; what frees _3; _2; …; _1; …;
+        -- room for _0; …]
         calls-at ! fm (Add 𝓤 H A at-mem run) known (to α l₃ δ) (and-then ! (load ! (from ! (stop !)) (look ! 2 refl)) (and-then ! (load ! (from ! (stop !)) (look ! 7 refl)) (no-more !))) (λ u.
         use1 W (later (some (λ (r : Unit {0}). ((‵ (flft (α ∷ []) fullShare) ⊛ ‵ ftrue) ⊛ ‵ (unit .own r (u ∷ []))) ⊛ raw (ensured 𝓤 H A add.ended (add.clauses 𝓤 H A at-mem run) (α ∷ [], tt) (lent l₃ δ, (n, tt)) tt r)))) (id⊢ 𝓤 _) $ await ! tt $ pick ! (λ r.
         -- what `add` ensures, at some last record
         split ! $ move ! (1 ∷ []) $ use1 W (some (λ (zs : Moments × (Unit {0} × Unit {0})). ‵ (lasts add.ended (α ∷ [], tt) (lent l₃ δ, (n, tt)) zs) ⊛ raw (fact 𝓤 (zs .0 ≡ withValue m n)))) (id⊢ 𝓤 _) $ pick ! (λ zs.
         split ! $ move ! (1 ∷ []) $ heard ! (zs .0 ≡ withValue m n) (λ e. fsplit ! $ move ! (2 ∷ []) $ split ! $ move ! (1 ∷ []) $ facts ! unit (Is unit) (shows 𝓤 H A unit) r (u ∷ []) (λ is.
-        -- [the token; the last record; true; the lender's part; _5; …; room for _4; …; what frees _3; _2; …; _1; …; room for _0; …]
+        -- [the token; the last record; true; the lender's part; _5; …; room for _4; …; what frees
+        -- _3; _2; …; _1; …; room for _0; …]
         land ! (from ! (stop !)) (init ! 6 refl (nothing-lawful 𝓤 H A W .typed r _ is .0)) $
         -- the lifetime is ended, and the local is taken back at that record
         split ! $ lft-end ! tt $ move ! (0 ∷ 4 ∷ 2 ∷ []) $ use3 W (later (‵ (partAt T.the-row fullShare (zs .0) l₃ 0))) (ref-back 𝓤 H A W T.the-row (α ∷ []) δ (zs .0) l₃ 0) $ await ! tt $
         use1 W (some (λ (v : Val). ‵ (fat fullShare (lone (T.the-row .mir)) l₃ 0 v) ⊛ ‵ (T.the-row .own (zs .0) (v ∷ [])))) (part-out 𝓤 H A W T.the-row refl fullShare (zs .0) l₃ 0) $ pick ! (λ v. split ! $
         move ! (1 ∷ []) $ peeks ! T.the-row (Is T.the-row) (shows 𝓤 H A T.the-row) (zs .0) (v ∷ []) (λ is′.
-        -- [what the record owns; _3; true; true; _5; …; _4; …; what frees _3; _2; …; _1; …; room for _0; …]
+        -- [what the record owns; _3; true; true; _5; …; _4; …; what frees _3; _2; …; _1; …; room
+        -- for _0; …]
         assigns ! (of-opd ! (load ! (from ! (stop !)) (look ! 1 refl))) (from ! (stop !)) (init ! 13 refl (LL.lawful T.the-type T′.the-laws 𝓤 H A W .typed (zs .0) _ is′ .0)) $
         returns ! (look ! 13 refl) $ forget ! 1 refl $ forget ! 4 refl $ forget ! 6 refl $ forget ! 9 refl $ forget ! 11 refl $ forget ! 13 refl $
         move ! (13 ∷ 14 ∷ []) $ free1 ! $ move ! (11 ∷ 12 ∷ []) $ free1 ! $ move ! (9 ∷ 10 ∷ []) $ free1 ! $ move ! (1 ∷ 8 ∷ []) $ free1 ! $ move ! (5 ∷ 6 ∷ []) $ free1 ! $ move ! (3 ∷ 4 ∷ []) $ free1 ! $ free0 ! $

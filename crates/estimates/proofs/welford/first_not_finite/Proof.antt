@@ -1,4 +1,5 @@
--- `welford::first_not_finite` meets its contract: each answer by the tests that led to it. Assumes nothing.
+-- `welford::first_not_finite` meets its contract: each answer by the tests that led to it. Assumes
+-- nothing.
 use borrow.Author.Needs.{needs}
 use Rattle.estimates.specs.Moments.{notFinite}
 use Rattle.estimates.proofs.Answers.{holds, fails}

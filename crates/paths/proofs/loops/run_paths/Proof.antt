@@ -1,5 +1,6 @@
--- `loops::run_paths` meets its contract. The loops' invariants and what a turn does to them are in `proofs/Turns.antt`, what the code is handed in `proofs/Handed.antt`, and the claim in `proofs/Claim.antt`.
--- Assumes nothing.
+-- `loops::run_paths` meets its contract. The loops' invariants and what a turn does to them are in
+-- `proofs/Turns.antt`, what the code is handed in `proofs/Handed.antt`, and the claim in
+-- `proofs/Claim.antt`. Assumes nothing.
 use mathlib.Core.Path.{_≡_, refl, sym, _∙_, ap, subst}
 use mathlib.Core.Bool.{_||_}
 use mathlib.Core.List.{List}
@@ -16,8 +17,8 @@ use Rattle.numeric.specs.Double.{plusZero}
 use Rattle.model.specs.declared.Finiteness.the-variants.{Finite}
 use Rattle.model.specs.Inner.Laid.{Laid}
 use Rattle.model.specs.Inner.Rates.{RatesOf}
-use Rattle.model.specs.Schedule.{lastStep, dtAt, sqrtDtAt}
-use Rattle.model.specs.Inner.InUse.{scheduleInUse}
+use Rattle.model.specs.TimeGrid.{lastStep, dtAt, sqrtDtAt}
+use Rattle.model.specs.Inner.InUse.{gridInUse}
 use Rattle.model.specs.Step.{step, finiteness}
 use Rattle.model.specs.Inner.InUse.{kernelInUse, stateInUse}
 use Rattle.model.proofs.Laws.{rates-own}
@@ -43,7 +44,7 @@ use Rattle.paths.proofs.loops.run_paths.Tie as tie
 abbrev Inv-loop : tie.InvT-loop
 Inv-loop batch payoff draws observations₀ mirrored paths observation observed k p start sched total count first sums failed₀ steps₀ non-positive path next-group s₀ rates₀ segment₀ at₀ low₀ observations failed steps s rates segment at low =
     Inner (batchOf batch draws) path observations₀ observations steps segment at (stateInUse (batch .simulation .kernel .n) s) low
-    × RatesOf (batch .simulation .kernel) (getD (batch .simulation .schedule .dt) segment nan) (getD (batch .simulation .schedule .«sqrt_dt») segment nan) rates
+    × RatesOf (batch .simulation .kernel) (getD (batch .simulation .grid .dt) segment nan) (getD (batch .simulation .grid .«sqrt_dt») segment nan) rates
 
 abbrev μ-loop : tie.MeasureT-loop
 μ-loop batch payoff draws observations₀ mirrored paths observation observed k p start sched total count first sums failed₀ steps₀ non-positive path next-group s₀ rates₀ segment₀ at₀ low₀ observations failed steps s rates segment at low =
@@ -57,7 +58,8 @@ abbrev μ-paths : tie.MeasureT-paths
 μ-paths batch payoff draws observations₀ mirrored paths observation observed k p start sched total count first sums₀ failed₀ steps₀ non-positive₀ path₀ next-group₀ observations sums failed steps non-positive path next-group =
     paths - path
 
--- ---- the places of the code that the answers name: the entry, a turn of the path loop, a turn of the step loop, the step taken, and the flag set after it
+-- ---- the places of the code that the answers name: the entry, a turn of the path loop, a turn of
+-- the step loop, the step taken, and the flag set after it
 
 abbrev Entry : Type 0
 Entry = tie.Start Inv-loop μ-loop Inv-paths μ-paths
@@ -89,8 +91,8 @@ turn-of c = c .before .before
 abbrev step-of : Flagged → Stepped
 step-of c = c .before .before .before .before .before
 
-laid-at : (c : Entry) → Laid (scheduleInUse (c .args .batch .simulation .schedule))
-laid-at c = laid-in-use (c .args .batch .simulation .schedule) (c .pre .laid)
+laid-at : (c : Entry) → Laid (gridInUse (c .args .batch .simulation .grid))
+laid-at c = laid-in-use (c .args .batch .simulation .grid) (c .pre .laid)
 
 -- ---- before the loops
 
@@ -152,7 +154,7 @@ module _ (c : Group) where
   group-within = within (c .before .before .before .before .before .before)
 
   -- its numbers
-  group-small : SmallGroup (path-of-group c .before .paths .path) (given-group .args .batch .simulation .schedule .total) (given-group .args .batch .simulation .schedule .count) (length (path-of-group c .before .paths .observations))
+  group-small : SmallGroup (path-of-group c .before .paths .path) (given-group .args .batch .simulation .grid .total) (given-group .args .batch .simulation .grid .count) (length (path-of-group c .before .paths .observations))
   group-small =
       let given = given-group .pre in
       small-group _ _ _ _ _ (given .most) (given .laid .short) (given .laid .few) group-within (path-of-group c .before .paths .inv .long)
@@ -164,10 +166,10 @@ module _ (c : Group) where
       subst (λ (r : Together). Walks (batchOf (e .args .batch) (e .args .draws .now)) (path-of-group c .before .paths .path) rows r)
       (c .before .fell .given .1) (c .before .before .before .before .walk-four .ensures .1)
 
-  rows-fit : 4 * given-group .args .batch .simulation .schedule .count ≤ length rows
+  rows-fit : 4 * given-group .args .batch .simulation .grid .count ≤ length rows
   rows-fit = le-trans (group-small .rows) (le-of-eq (sym (c .before .before .before .before .walk-four .ensures .0)))
 
-  part-long : length (take (4 * given-group .args .batch .simulation .schedule .count) rows) ≡ 4 * given-group .args .batch .simulation .schedule .count
+  part-long : length (take (4 * given-group .args .batch .simulation .grid .count) rows) ≡ 4 * given-group .args .batch .simulation .grid .count
   part-long = length-take-le _ _ rows-fit
 
 mul-rows : tie.Need-mul-rows Inv-loop μ-loop Inv-paths μ-paths
@@ -186,7 +188,7 @@ write-rows-requires : tie.Need-write-rows-requires Inv-loop μ-loop Inv-paths μ
 write-rows-requires c κs =
     let group : Group = c .before .before in
     let path : Path = path-of-group group in
-    subst (λ (x : ℕ). path .before .paths .path * entry path .args .batch .simulation .schedule .count + x ≤ length (path .before .paths .observations))
+    subst (λ (x : ℕ). path .before .paths .path * entry path .args .batch .simulation .grid .count + x ≤ length (path .before .paths .observations))
     (sym (part-long group)) (group-small group .cells)
 
 -- what the rows of the group show the payoff
@@ -246,7 +248,7 @@ loop-holds c =
 
 -- ---- a step: what it asks
 
-small-at : (c : Turn) → Small (entry (path-of c) .args .batch .paths) (path-of c .before .paths .path) (entry (path-of c) .args .batch .simulation .schedule .total) (entry (path-of c) .args .batch .simulation .schedule .count) (c .before .loop .segment) (c .before .loop .at)
+small-at : (c : Turn) → Small (entry (path-of c) .args .batch .paths) (path-of c .before .paths .path) (entry (path-of c) .args .batch .simulation .grid .total) (entry (path-of c) .args .batch .simulation .grid .count) (c .before .loop .segment) (c .before .loop .at)
 small-at c =
     small (laid-at (entry (path-of c))) (c .before .loop .inv .0) (entry (path-of c) .pre .most) (path-of c .paths-test .taken) (c .loop-test .taken)
 
@@ -311,7 +313,7 @@ rates-at-requires-2 c κs = entry (path-of (turn-of (step-of (c .before .before 
 -- ---- a step: what it leaves
 
 -- the segment that contains it
-open-at : (c : Turn) → c .before .loop .segment < entry (path-of c) .args .batch .simulation .schedule .count
+open-at : (c : Turn) → c .before .loop .segment < entry (path-of c) .args .batch .simulation .grid .count
 open-at c = reached-open _ (laid-at (entry (path-of c))) _ _ (c .before .loop .inv .0 .reached) (c .loop-test .taken)
 
 -- the state is that of the plain walk
@@ -319,9 +321,9 @@ module _ (c : Stepped) where
   abbrev given : Entry
   given = entry (path-of (turn-of c))
 
-  stepped : stateInUse (given .args .batch .simulation .kernel .n) (c .step .result) ≡ step (kernelInUse (given .args .batch .simulation .kernel)) (given .args .batch .simulation .raw) (stateInUse (given .args .batch .simulation .kernel .n) (turn-of c .before .loop .s)) (drawOf (given .args .batch .mirrored) (given .args .draws .now) (given .args .batch .simulation .schedule .total) (suc (path-of (turn-of c) .before .paths .path)) (suc (turn-of c .before .loop .at))) (dtAt (scheduleInUse (given .args .batch .simulation .schedule)) (suc (turn-of c .before .loop .at))) (sqrtDtAt (scheduleInUse (given .args .batch .simulation .schedule)) (suc (turn-of c .before .loop .at)))
+  stepped : stateInUse (given .args .batch .simulation .kernel .n) (c .step .result) ≡ step (kernelInUse (given .args .batch .simulation .kernel)) (given .args .batch .simulation .params) (stateInUse (given .args .batch .simulation .kernel .n) (turn-of c .before .loop .s)) (drawOf (given .args .batch .mirrored) (given .args .draws .now) (given .args .batch .simulation .grid .total) (suc (path-of (turn-of c) .before .paths .path)) (suc (turn-of c .before .loop .at))) (dtAt (gridInUse (given .args .batch .simulation .grid)) (suc (turn-of c .before .loop .at))) (sqrtDtAt (gridInUse (given .args .batch .simulation .grid)) (suc (turn-of c .before .loop .at)))
   stepped =
-      step-in-use (given .args .batch .simulation .schedule) (given .pre .laid) _ _ (turn-of c .before .loop .inv .0 .reached) (open-at (turn-of c)) (given .args .batch .simulation .kernel) (turn-of c .before .loop .rates) (turn-of c .before .loop .inv .1) _ _ _ _ _ _ (c .before .draw-at .ensures) (c .step .ensures)
+      step-in-use (given .args .batch .simulation .grid) (given .pre .laid) _ _ (turn-of c .before .loop .inv .0 .reached) (open-at (turn-of c)) (given .args .batch .simulation .kernel) (turn-of c .before .loop .rates) (turn-of c .before .loop .inv .1) _ _ _ _ _ _ (c .before .draw-at .ensures) (c .step .ensures)
 
 module _ (c : Flagged) where
   finite-now : finiteness (stateInUse (given (step-of c) .args .batch .simulation .kernel .n) (step-of c .step .result)) ≡ Finite
@@ -337,9 +339,9 @@ module _ (c : Flagged) where
       ⊎-elim (λ w. raised low _ _ (zero ∙ w .0 .taken) (w .1)) (λ w. left-low low _ _ (zero ∙ w .0 .left) (w .1)) (c .if3 .came)
 
   -- the last step of the segment
-  last-now : getD (given (step-of c) .args .batch .simulation .schedule .last) (turn-of (step-of c) .before .loop .segment) 0 ≡ lastStep (scheduleInUse (given (step-of c) .args .batch .simulation .schedule)) (suc (turn-of (step-of c) .before .loop .segment))
+  last-now : getD (given (step-of c) .args .batch .simulation .grid .last) (turn-of (step-of c) .before .loop .segment) 0 ≡ lastStep (gridInUse (given (step-of c) .args .batch .simulation .grid)) (suc (turn-of (step-of c) .before .loop .segment))
   last-now =
-      let sched = given (step-of c) .args .batch .simulation .schedule in sym (getD-take (sched .count) (sched .last) _ 0 (open-at (turn-of (step-of c))))
+      let sched = given (step-of c) .args .batch .simulation .grid in sym (getD-take (sched .count) (sched .last) _ 0 (open-at (turn-of (step-of c))))
 
 loop-less : tie.Need-loop-less Inv-loop μ-loop Inv-paths μ-paths
 loop-less c = omega arith
@@ -384,10 +386,10 @@ abbrev path-ended : Ended → Path
 path-ended c = c .before .before .before .before
 
 -- the numbers of a row are small
-row-small : (c : Path) → (c .before .paths .path * entry c .args .batch .simulation .schedule .count + entry c .args .batch .simulation .schedule .count ≤ entry c .args .batch .paths * entry c .args .batch .simulation .schedule .count)
-    × (entry c .args .batch .paths * entry c .args .batch .simulation .schedule .count ≤ 4194304)
+row-small : (c : Path) → (c .before .paths .path * entry c .args .batch .simulation .grid .count + entry c .args .batch .simulation .grid .count ≤ entry c .args .batch .paths * entry c .args .batch .simulation .grid .count)
+    × (entry c .args .batch .paths * entry c .args .batch .simulation .grid .count ≤ 4194304)
 row-small c =
-    let count = entry c .args .batch .simulation .schedule .count in
+    let count = entry c .args .batch .simulation .grid .count in
     (row-last _ _ count count (c .paths-test .taken) (omega arith), mul-le-mul (entry c .pre .most) (entry c .pre .laid .few))
 
 mul-begin : tie.Need-mul-begin Inv-loop μ-loop Inv-paths μ-paths

@@ -1,4 +1,5 @@
--- `replay::tables::list` meets its contract: the loop counts up, and the length stays. Assumes nothing.
+-- `replay::tables::list` meets its contract: the loop counts up, and the length stays. Assumes
+-- nothing.
 use borrow.Author.Needs.{needs}
 use mathlib.Core.Path.{_≡_, sym}
 use lib.Seq.{length-take-le}

@@ -19,12 +19,12 @@ use Rattle.trace.proofs.walk.walk.Statement.{statement}
 use Rattle.trace.proofs.walk.walk.Tie as tie
 
 abbrev Inv-loop : tie.InvT-loop
-Inv-loop draws spots₀ variances₀ z₀ factors₀ kernel raw schedule n total s₀ segment₀ rates₀ at₀ spots variances z factors s segment rates at =
-    Walked (record { kernel = kernel; raw = raw; start = s₀; schedule = schedule }) draws
+Inv-loop draws spots₀ variances₀ z₀ factors₀ kernel raw grid n total s₀ segment₀ rates₀ at₀ spots variances z factors s segment rates at =
+    Walked (record { kernel = kernel; params = raw; start = s₀; grid = grid }) draws
     (tables spots₀ variances₀ z₀ factors₀) (tables spots variances z factors) s segment rates at
 
 abbrev μ-loop : tie.MeasureT-loop
-μ-loop draws spots₀ variances₀ z₀ factors₀ kernel raw schedule n total s₀ segment₀ rates₀ at₀ spots variances z factors s segment rates at =
+μ-loop draws spots₀ variances₀ z₀ factors₀ kernel raw grid n total s₀ segment₀ rates₀ at₀ spots variances z factors s segment rates at =
     total - at
 
 -- ---- the places: the entry, what is written, the loop's head, and after the point is written
@@ -87,7 +87,7 @@ write-point-requires c κs =
           point-fits (now .variances) _ (points .variances .long ∙ size .variances) most,
           point-fits (now .z) _ (points .z .long ∙ size .z) most,
         ),
-        factors-fit (m .kernel .n) (m .schedule .total) (now .factors) _
+        factors-fit (m .kernel .n) (m .grid .total) (now .factors) _
             (points .factors .long ∙ size .factors) most,
       ),
     )
@@ -118,7 +118,7 @@ module _ (c : tie.Else1 Inv-loop μ-loop) where
   abbrev here : tie.At-loop Inv-loop μ-loop
   here = head (c .before)
 
-  unfinished : here .loop .at < entry here .args .simulation .schedule .total
+  unfinished : here .loop .at < entry here .args .simulation .grid .total
   unfinished = omega (arith, here .loop .inv .most, c .if1 .left)
 
   inside : here .loop .segment < 64
@@ -165,7 +165,7 @@ stepped :
     → let here = head (going c .before) in
     let m = entry here .args .simulation in
     stateInUse (m .kernel .n) (c .before .step .result)
-    ≡ step (kernelInUse (m .kernel)) (m .raw) (stateInUse (m .kernel .n) (here .loop .s))
+    ≡ step (kernelInUse (m .kernel)) (m .params) (stateInUse (m .kernel .n) (here .loop .s))
     (getD (entry here .args .draws .now) (here .loop .at) nan) (here .loop .rates .dt)
     (here .loop .rates .«sqrt_dt»)
 stepped c = at-draw _ _ _ _ _ (c .before .before .take-draw .ensures) (c .before .step .ensures)

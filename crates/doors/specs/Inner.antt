@@ -1,2 +1,0 @@
--- What only proofs and inner contracts use: nothing here need be believed.
-pub mod Doors
