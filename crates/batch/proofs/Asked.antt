@@ -1,5 +1,5 @@
 -- What a batch call answers and leaves, from the outcome of its questions. Assumes nothing.
-use mathlib.Core.Path.{_≡_, refl, sym, _∙_, ap, subst}
+use mathlib.Core.Path.{_≡_, sym, _∙_, ap, subst}
 use mathlib.Core.List.{List}
 use lib.Ieee.{Float}
 use Rattle.refusal.specs.declared.Outcome.{Outcome}
@@ -16,12 +16,12 @@ use Rattle.batch.specs.Inner.Handed.{BatchPriced}
 
 -- a call that is refused before 22 leaves the table as lent
 pub refused-answered :
-    {A : Type 0} (written : Priced → A) (read : A → BatchAnswer) {asked : Outcome} (b : Batch)
-    (payoff : Payoff) (lent : List Float) (first : Refusal) → asked ≡ Refused first → {r : A}
-    → r ≡ written (priced.Refused first 0)
-    → BatchAnswered written read asked b payoff lent lent r
+    {A : Type 0} (read : A → BatchAnswer) {asked : Outcome} (b : Batch) (payoff : Payoff)
+    (lent : List Float) (first : Refusal) → asked ≡ Refused first → {r : A}
+    → read r ≡ answerOf b (priced.Refused first 0)
+    → BatchAnswered read asked b payoff lent lent r
 unfolding pricedOnceAsked
-refused-answered written read b payoff lent first e made =
+refused-answered read b payoff lent first e made =
     record {
       answer = made ∙ rw e;
       table = rw e;
@@ -32,27 +32,31 @@ refused-answered written read b payoff lent first e made =
 pub priced-answered :
     {asked : Outcome} {b : Batch} {payoff : Payoff} {lent after : List Float} {r : Priced}
     → asked ≡ Passed → BatchPriced b payoff lent after r
-    → BatchAnswered (λ x. x) (answerOf b) asked b payoff lent after r
+    → BatchAnswered (answerOf b) asked b payoff lent after r
 unfolding pricedOnceAsked
-priced-answered e made =
-    record { answer = made .answer ∙ rw e; table = made .table ∙ rw e; claim = λ passed. made .claim }
+priced-answered {asked} {b} e made =
+    record {
+      answer = ap (answerOf b) (made .answer) ∙ rw e;
+      table = made .table ∙ rw e;
+      claim = λ passed. made .claim;
+    }
 
--- the same answer, written and read otherwise, of the same batch after the same questions
+-- the same answer, read otherwise, of the same batch after the same questions
 module _
-    {A : Type 0} (written : Priced → A) (read : A → BatchAnswer) {asked asked′ : Outcome}
-    (same-asked : asked ≡ asked′) {b b′ : Batch} (same-batch : b ≡ b′) {payoff payoff′ : Payoff}
+    {A : Type 0} (read : A → BatchAnswer) {asked asked′ : Outcome} (same-asked : asked ≡ asked′)
+    {b b′ : Batch} (same-batch : b ≡ b′) {payoff payoff′ : Payoff}
     (same-payoff : payoff ≡ payoff′) {lent after : List Float}
   where
-    pub written-answered :
-        ((x : Priced) → read (written x) ≡ answerOf b′ x) → {x : Priced}
-        → BatchAnswered (λ x. x) (answerOf b) asked b payoff lent after x → {r : A}
-        → r ≡ written x → BatchAnswered written read asked′ b′ payoff′ lent after r
-    written-answered reads {x} made {r} e =
+    pub read-answered :
+        {x : Priced} → BatchAnswered (answerOf b) asked b payoff lent after x → {r : A}
+        → read r ≡ answerOf b′ x → BatchAnswered read asked′ b′ payoff′ lent after r
+    read-answered {x} made {r} e =
+        let same : read r ≡ answerOf b x =
+        e ∙ ap (λ (y : Batch). answerOf y x) (sym same-batch) in
         record {
-          answer = e ∙ ap written (made .answer ∙ rw (same-asked, same-batch, same-payoff));
+          answer = same ∙ made .answer ∙ rw (same-asked, same-batch, same-payoff);
           table = made .table ∙ rw (same-asked, same-batch);
           claim = λ passed.
-              subst (λ (y : BatchAnswer). BatchClaim b′ payoff′ lent after y)
-              (sym (ap read e ∙ reads x))
+              subst (λ (y : BatchAnswer). BatchClaim b′ payoff′ lent after y) (sym e)
               (rw (same-batch, same-payoff) at (made .claim (same-asked ∙ passed)));
         }

@@ -28,15 +28,13 @@ use Rattle.walks.specs.declared.Batch.{Batch as Handed}
 use Rattle.walks.specs.Inner.Handed.{batchOf}
 use Rattle.walks.specs.Batch.{Batch, walkOf, nonPositivePaths, observation}
 use Rattle.walks.proofs.Cells.{row-below}
-use Rattle.estimates.specs.declared.Estimates.{Estimates}
 use Rattle.estimates.specs.declared.Payoff.{Payoff}
 use Rattle.estimates.proofs.Values.{SameUpTo}
 use Rattle.paths.specs.declared.Run.{Run}
 use Rattle.batch.specs.declared.Priced.{Priced}
 use Rattle.batch.specs.declared.Priced.the-variants.{Price}
-use Rattle.batch.specs.declared.Report.{Report}
 use Rattle.paths.specs.Run.{RunStop, onPath, runStop, entryAfter, tableAfter}
-use Rattle.batch.specs.Report.{reported, refusedAfter, pricedAt, pricedRun}
+use Rattle.batch.specs.Report.{reported, refusedAfter, reportWith, pricedAt, pricedRun}
 use Rattle.batch.specs.Claim.{pricedAnswer, answerOf, OneTo, stateOf, FiniteAt, StepTaken, PlainWalks}
 use Rattle.batch.specs.Claim.{SomeStepFails, FiniteBefore, FirstFailure, reportOf, Reaches}
 use Rattle.batch.specs.Claim.{entry, Written, BatchClaim}
@@ -249,15 +247,6 @@ module _
     unfolding observation
     last-step p = ap (λ (k : ℕ). b .observe (stateAfter (walkOf b p) k)) (laid .ends)
 
-    abbrev report : Estimates → Report
-    report estimates =
-        record {
-          estimates = estimates;
-          paths = b .paths;
-          «non_positive» = nonPositivePaths b (b .paths);
-          steps = b .paths * b .simulation .grid .total;
-        }
-
     abbrev refused : Refusal → Priced
     refused = refusedAfter (b .paths * b .simulation .grid .total)
 
@@ -266,7 +255,7 @@ module _
     unfolding reportOf
     done e =
         let other : (answerOf b (pricedAt b payoff none) .number ≡ 22 → ⊥) =
-        reported-other (b .observed) payoff seen (b .paths) refused (λ x. Price (report x))
+        reported-other (b .observed) payoff seen (b .paths) refused (λ x. Price (reportWith b x))
         (λ r. answerOf b r .number ≡ 22 → ⊥) (λ r other. other) (λ x h. omega (arith, h)) in
         record {
           walks = walks;
@@ -280,10 +269,10 @@ module _
           );
           names = λ h. absurd (other h);
           otherwise = λ none.
-              reported-read (b .observed) payoff seen (b .paths) refused (λ x. Price (report x))
+              reported-read (b .observed) payoff seen (b .paths) refused (λ x. Price (reportWith b x))
               (answerOf b)
               ∙ reported-same (b .observed) payoff seen walked (b .paths) (λ p l h. last-step p)
-              _ (λ x. pricedAnswer (b .observed) (report x));
+              _ (λ x. pricedAnswer (b .observed) (reportWith b x));
           written = written b lent (laid .some) rows;
         }
 
@@ -334,7 +323,7 @@ module _
     table = tableAfter batch lent
 
     priced-is : pricedAfter (runAnswer batch payoff) handed table ≡ pricedRun batch payoff
-    unfolding runAnswer pricedRun pricedFrom reportedOf reported
+    unfolding runAnswer pricedRun pricedFrom reportedOf reported reportWith
     priced-is = go (runStop batch (batch .paths)) refl
       where
         go :

@@ -21,12 +21,12 @@ use Rattle.model.specs.TimeGrid.{lastStep, contains}
 use Rattle.model.specs.Walk.{stateAfter, Sound}
 use Rattle.walks.specs.declared.Observed.{Observed}
 use Rattle.walks.specs.declared.Observed.the-variants.{Spot, VixSquared}
-use Rattle.walks.specs.Batch.{Batch, walkOf, nonPositivePaths}
+use Rattle.walks.specs.Batch.{Batch, walkOf}
 use Rattle.estimates.specs.declared.Payoff.{Payoff}
 use Rattle.batch.specs.declared.Report.{Report}
 use Rattle.batch.specs.declared.Priced.{Priced}
 use Rattle.batch.specs.declared.Priced.the-variants.{Price, Refused}
-use Rattle.batch.specs.Report.{reported}
+use Rattle.batch.specs.Report.{reported, reportWith}
 
 -- ---- the answer as it crosses the edge
 
@@ -156,20 +156,12 @@ pub record NamesFirst (b : Batch) (answer : BatchAnswer) : Type 0 where
 -- Rule 18.8: what is made of the state that each path ends with, after N steps; and paths × N steps
 -- are taken
 unfoldable pub reportOf : Batch → Payoff → BatchAnswer
-unfolding stateAfter reported nonPositivePaths
+unfolding stateAfter reported reportWith
 reportOf b payoff =
     let total = b .simulation .grid .total in
-    let steps = b .paths * total in
     reported (b .observed) payoff (λ p. b .observe (stateOf b p total)) (b .paths)
-    (refusedAnswer (b .observed) steps)
-    (λ estimates.
-    pricedAnswer (b .observed)
-    (record {
-      estimates = estimates;
-      paths = b .paths;
-      «non_positive» = nonPositivePaths b (b .paths);
-      steps = steps;
-    }))
+    (refusedAnswer (b .observed) (b .paths * total))
+    (λ estimates. pricedAnswer (b .observed) (reportWith b estimates))
 
 -- ---- the observation table
 

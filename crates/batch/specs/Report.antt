@@ -15,6 +15,7 @@ use Rattle.estimates.specs.declared.Payoff.{Payoff}
 use Rattle.estimates.specs.Payoff.{underlyingOf}
 use Rattle.estimates.specs.Moments.{tallyOf, estimatesFrom, notFinite}
 use Rattle.paths.specs.Run.{RunStop, runStop, stepsAt, refusalAt}
+use Rattle.batch.specs.declared.Report.{Report}
 use Rattle.batch.specs.declared.Priced.{Priced}
 use Rattle.batch.specs.declared.Priced.the-variants.{Price, Refused}
 
@@ -46,6 +47,17 @@ reported observed payoff last paths refused priced =
 abbrev pub refusedAfter : ℕ → Refusal → Priced
 refusedAfter steps refusal = Refused refusal steps
 
+-- Rule 10.7: what is reported with the estimates of a batch that goes through
+unfoldable pub reportWith : Batch → Estimates → Report
+unfolding nonPositivePaths
+reportWith b estimates =
+    record {
+      estimates = estimates;
+      paths = b .paths;
+      «non_positive» = nonPositivePaths b (b .paths);
+      steps = b .paths * b .simulation .grid .total;
+    }
+
 -- Rule 9.8: 22 where the batch stops; else what is reported of the last observations
 abbrev pub pricedAt : Batch → Payoff → Option RunStop → Priced
 pricedAt b payoff (some s) = Refused (refusalAt b s) (stepsAt b s)
@@ -53,17 +65,9 @@ pricedAt b payoff none =
     let grid = b .simulation .grid in
     let steps = b .paths * grid .total in
     reported (b .observed) payoff (λ p. observation b p (grid .count)) (b .paths)
-    (refusedAfter steps)
-    (λ estimates.
-    Price
-    (record {
-      estimates = estimates;
-      paths = b .paths;
-      «non_positive» = nonPositivePaths b (b .paths);
-      steps = steps;
-    }))
+    (refusedAfter steps) (λ estimates. Price (reportWith b estimates))
 
 -- Rule 9.8: what a batch whose questions before 22 are passed answers
 unfoldable pub pricedRun : Batch → Payoff → Priced
-unfolding runStop observation reported nonPositivePaths
+unfolding runStop observation reported reportWith
 pricedRun b payoff = pricedAt b payoff (runStop b (b .paths))

@@ -1,4 +1,3 @@
 pub mod Norm
 pub mod Exponential
 pub mod Inner
-pub mod Samples

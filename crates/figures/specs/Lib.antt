@@ -3,4 +3,7 @@ pub mod Twelve
 pub mod Admitted
 pub mod Claimed
 pub mod Excluded
-pub mod Samples
+pub mod Schedules
+pub mod Roots
+pub mod Exponentials
+pub mod Matrices

@@ -3,7 +3,7 @@
 -- that no figure rests on the conversion that it checks.
 use mathlib.Core.Path.{_≡_, refl}
 use mathlib.Core.Bool.{false}
-use mathlib.Core.List.{List, [], _∷_}
+use mathlib.Core.List.{List, [], _∷_, _++_}
 use Prim.Native.Nat.{ℕ}
 use lib.ListN.{length, getD, replicate}
 use lib.Ieee.{Float, nan, binary64, ofBits, round}
@@ -20,7 +20,8 @@ use Rattle.trace.specs.Call.{traceInputs, traceCall, traceTables}
 use Rattle.exponentiation.specs.Call.{matrixInputs, exponentialCall, exponentialTable}
 use Rattle.refusal.specs.Refusal.{noPlace}
 use Rattle.batch.specs.Answered.{pricedOnceAsked}
-use Rattle.vanilla.specs.Call.{vanillaQuestions, vanillaBatch, vanillaPayoff, written}
+use Rattle.vanilla.specs.Call.{vanillaQuestions, vanillaBatch, vanillaPayoff}
+use Rattle.batch.specs.Claim.{answerOf}
 use Rattle.qrh.specs.Conversion.{conversion}
 use Rattle.vix_value.specs.declared.Factors.{Factors}
 use Rattle.vix_value.specs.Call.{vixInputs, vixCall}
@@ -70,10 +71,9 @@ abbrev pub priced : List Float → Figure
 priced draws =
     let i = callAt100 oneStep false draws in
     let asked = firstNo (vanillaQuestions i (length (lent 2))) in
-    let a = written (pricedOnceAsked asked (vanillaBatch i) (vanillaPayoff i)) in
-    figure (a .number) (a .place)
-    (a .price ∷ a .«price_error» ∷ a .«spot_mean» ∷ a .«spot_error» ∷ [])
-    (a .paths ∷ a .«non_positive» ∷ a .steps ∷ [])
+    let b = vanillaBatch i in
+    let a = answerOf b (pricedOnceAsked asked b (vanillaPayoff i)) in
+    figure (a .number) (a .place) (a .doubles) (a .counts ++ (a .steps ∷ []))
 
 -- a matrix of dimension 2
 abbrev pub powered : List Float → Figure

@@ -1,7 +1,7 @@
 // Runs the checked figures (rules 19.1 and 19.2), and compares each with what it should be.
 use libc::STDOUT_FILENO;
 
-mod exponential;
+mod exponentials;
 mod given;
 mod report;
 mod scalar;
@@ -13,7 +13,7 @@ fn main() {
     let mut wrong = scalar::figures(0);
     wrong = traces::figures(wrong);
     wrong = vanillas::figures(wrong);
-    wrong = exponential::figures(wrong);
+    wrong = exponentials::figures(wrong);
     wrong = vix::figures(wrong);
     io::print_decimal(STDOUT_FILENO, wrong);
     io::write_all(STDOUT_FILENO, b" wrong\n");

@@ -11,7 +11,8 @@ use lib.Ieee.{Float, nan}
 use Rattle.numeric.specs.Double.{plusZero}
 use Rattle.model.specs.declared.Kernel.{Kernel}
 use Rattle.model.specs.declared.Params.{Params}
-use Rattle.generator_rows.specs.State.{pairsBefore, joined, pairsOfRow, pairsOfRows, inStateOrder, pairAt, integralAt, constantAt, InOrder}
+use Rattle.generator_rows.specs.State.{pairsBefore, joined, pairsOfRow, pairsOfRows, inStateOrder, pairAt, integralAt, constantAt}
+use Rattle.generator_rows.specs.Inner.Order.{InOrder}
 use Rattle.generator_rows.specs.Rows.{meanCoefficient, pairCoefficient, constantCoefficient, varianceRow}
 use Rattle.generator_rows.proofs.Pairs.{fewer-rows}
 use Rattle.generator_rows.proofs.Places.{pair-up, dimension-is}

@@ -46,15 +46,3 @@ constantAt n = integralAt n + 1
 
 abbrev pub dimension : ℕ → ℕ
 dimension n = integralAt n + 2
-
--- The law of these places: in a row over the state each of them holds what belongs there, and the
--- row is as long as n means, n × (n + 1) / 2 pairs, the integral and the constant.
-pub record InOrder (n : ℕ) (mean : ℕ → Float) (pair : ℕ → ℕ → Float) (integral constant : Float)
-    (row : List Float) : Type 0 where
-  pub mean-at : (i : ℕ) → i < n → getD row i nan ≡ mean i
-  pub pair-at : (i j : ℕ) → i ≤ j → j < n → getD row (pairAt n i j) nan ≡ pair i j
-  pub same-pair : (i j : ℕ) → pairAt n j i ≡ pairAt n i j
-  pub integral-at : getD row (integralAt n) nan ≡ integral
-  pub constant-at : getD row (constantAt n) nan ≡ constant
-  pub long : length row ≡ dimension n
-  pub dimension-is : dimension n ≡ n + n * (n + 1) / 2 + 2

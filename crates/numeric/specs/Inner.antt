@@ -1,4 +1,3 @@
 -- What only proofs and inner contracts use: nothing here need be believed.
 pub mod Bits
 pub mod Step
-pub mod Samples

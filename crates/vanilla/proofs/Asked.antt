@@ -29,10 +29,11 @@ use Rattle.batch.specs.declared.Priced.the-variants as priced
 use Rattle.batch.specs.Questions.{strikeQuestions, pathQuestions, batchQuestions}
 use Rattle.batch.specs.Claim.{answerOf}
 use Rattle.batch.specs.Inner.Handed.{Ready, PricedOnceAsked}
-use Rattle.batch.proofs.Asked.{refused-answered, written-answered}
+use Rattle.batch.proofs.Asked.{refused-answered, read-answered}
 use Rattle.vanilla.specs.declared.Estimate.{Estimate}
 use Rattle.vanilla.specs.Call.{VanillaInputs, vanillaQuestions, vanillaBatch, vanillaPayoff}
-use Rattle.vanilla.specs.Call.{written, read, VanillaAnswered}
+use Rattle.vanilla.specs.Call.{read, VanillaAnswered}
+use Rattle.vanilla.specs.Inner.Answer.{written}
 
 module _ (i : VanillaInputs) (lent : List Float) where
   -- what is asked before 19
@@ -63,8 +64,8 @@ module _ (i : VanillaInputs) (lent : List Float) where
           → VanillaAnswered i lent lent x
       unfolding vanillaQuestions
       refused r e made =
-          refused-answered written read (vanillaBatch i) (vanillaPayoff i) lent r
-          (stops earlier _ r (sym first-is ∙ e)) made
+          refused-answered read (vanillaBatch i) (vanillaPayoff i) lent r
+          (stops earlier _ r (sym first-is ∙ e)) (ap read made)
 
       module _ (e : asked ≡ Passed) where
         ready : SimulationReady (i .given) (door .simulation)
@@ -115,5 +116,5 @@ module _ (i : VanillaInputs) (lent : List Float) where
                 {payoff : Payoff} → payoff ≡ vanillaPayoff i → {after : List Float} {x : Priced}
                 → PricedOnceAsked handed payoff (i .draws) lent after x → {r : Estimate}
                 → r ≡ written x → VanillaAnswered i lent after r
-            priced-through pays made e =
-                written-answered written read sizes-is batch-is pays reads made e
+            priced-through pays {after} {x} made e =
+                read-answered read sizes-is batch-is pays made (ap read e ∙ reads x)

@@ -4,8 +4,6 @@ use mathlib.Core.List.{List, [], _∷_, _++_}
 use Prim.Native.Nat.{ℕ}
 use lib.ListN.{length}
 use lib.Ieee.{Float}
-use Rattle.numeric.specs.Double.{plusZero}
-use Rattle.refusal.specs.Refusal.{numberOf, placeOf, noPlace}
 use Rattle.refusal.specs.Questions.{Question, firstNo}
 use Rattle.model.specs.Parameters.{startOf}
 use Rattle.model.specs.TimeGrid.{gridOf}
@@ -14,8 +12,6 @@ use Rattle.admission.specs.Questions.{modelQuestions}
 use Rattle.walks.specs.declared.Observed.the-variants.{Spot}
 use Rattle.walks.specs.Batch.{Batch, batchOn}
 use Rattle.estimates.specs.declared.Payoff.{Payoff}
-use Rattle.batch.specs.declared.Priced.{Priced}
-use Rattle.batch.specs.declared.Priced.the-variants.{Price, Refused}
 use Rattle.batch.specs.Questions.{strikeQuestions, vanillaAt, pathQuestions, batchQuestions}
 use Rattle.batch.specs.Claim.{BatchAnswer}
 use Rattle.batch.specs.Answered.{BatchAnswered}
@@ -50,35 +46,7 @@ vanillaBatch i =
 abbrev pub vanillaPayoff : VanillaInputs → Payoff
 vanillaPayoff i = vanillaAt (i .order .put) (i .order .strike)
 
--- Rules 17.1 and 17.2: price and mean terminal spot, each with its standard error, paths,
--- non-positive paths and the steps taken; at a refusal zeros, but for the steps
-abbrev pub written : Priced → Estimate
-written (Price report) =
-    record {
-      number = 0;
-      place = noPlace;
-      price = report .estimates .payoff .mean;
-      «price_error» = report .estimates .payoff .error;
-      «spot_mean» = report .estimates .underlying .mean;
-      «spot_error» = report .estimates .underlying .error;
-      paths = report .paths;
-      «non_positive» = report .«non_positive»;
-      steps = report .steps;
-    }
-written (Refused refusal steps) =
-    record {
-      number = numberOf refusal;
-      place = placeOf refusal;
-      price = plusZero;
-      «price_error» = plusZero;
-      «spot_mean» = plusZero;
-      «spot_error» = plusZero;
-      paths = 0;
-      «non_positive» = 0;
-      steps = steps;
-    }
-
--- Rule 18.4: what the claim speaks of
+-- Rules 17.2 and 18.4: every field of the answer, as the claim speaks of it
 abbrev pub read : Estimate → BatchAnswer
 read a =
     record {
@@ -92,5 +60,5 @@ read a =
 -- Rules 15.3, 16.3 and 18.3: the answer, the table of observations and the claim
 abbrev pub VanillaAnswered : VanillaInputs → List Float → List Float → Estimate → Type 0
 VanillaAnswered i lent after r =
-    BatchAnswered written read (firstNo (vanillaQuestions i (length lent))) (vanillaBatch i)
+    BatchAnswered read (firstNo (vanillaQuestions i (length lent))) (vanillaBatch i)
     (vanillaPayoff i) lent after r

@@ -1,7 +1,8 @@
 // The vanilla call: a batch of calls or puts on the spot, ordinary or mirrored.
 ghost use mathlib.Core.Path.{_≡_};
 ghost use Rattle.model.specs.Simulation.{given};
-ghost use Rattle.vanilla.specs.Call.{vanillaInputs, written, VanillaAnswered};
+ghost use Rattle.vanilla.specs.Call.{vanillaInputs, VanillaAnswered};
+ghost use Rattle.vanilla.specs.Inner.Answer.{written};
 use batch::Priced;
 use batch::pricing;
 use batch::questions;

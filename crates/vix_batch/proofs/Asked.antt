@@ -37,11 +37,12 @@ use Rattle.batch.specs.declared.Priced.the-variants as priced
 use Rattle.batch.specs.Questions.{pathQuestions, batchQuestions}
 use Rattle.batch.specs.Claim.{answerOf}
 use Rattle.batch.specs.Inner.Handed.{Ready, PricedOnceAsked}
-use Rattle.batch.proofs.Asked.{refused-answered, written-answered}
+use Rattle.batch.proofs.Asked.{refused-answered, read-answered}
 use Rattle.vix_batch.specs.declared.VixEstimate.{VixEstimate}
 use Rattle.vix_batch.specs.Call.{VixBatchInputs, payoffFor, payoffQuestions}
-use Rattle.vix_batch.specs.Call.{vixBatchQuestions, vixBatch, written, read}
+use Rattle.vix_batch.specs.Call.{vixBatchQuestions, vixBatch, read}
 use Rattle.vix_batch.specs.Call.{throughWorkspace, VixBatchAnswered}
+use Rattle.vix_batch.specs.Inner.Answer.{written}
 
 module _ (i : VixBatchInputs) (work lent : List Float) where
   -- what is asked of the form, and before 19
@@ -75,7 +76,8 @@ module _ (i : VixBatchInputs) (work lent : List Float) where
   refused r e made kept =
       record {
         batch =
-            refused-answered written read (vixBatch i) (payoffFor (i .order .payoff)) lent r e made;
+            refused-answered read (vixBatch i) (payoffFor (i .order .payoff)) lent r e
+            (ap read made);
         workspace = kept;
       }
 
@@ -195,8 +197,8 @@ module _ (i : VixBatchInputs) (work lent : List Float) where
                   → {after : List Float} {x : Priced}
                   → PricedOnceAsked handed payoff (i .draws) lent after x → {r : VixEstimate}
                   → r ≡ written x → VixBatchAnswered i work workAfter lent after r
-              priced-through pays made e =
+              priced-through pays {after} {x} made e =
                   record {
-                    batch = written-answered written read sizes-is batch-is pays reads made e;
+                    batch = read-answered read sizes-is batch-is pays made (ap read e ∙ reads x);
                     workspace = kept;
                   }

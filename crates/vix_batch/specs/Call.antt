@@ -4,9 +4,7 @@ use mathlib.Core.List.{List, [], _∷_, _++_}
 use Prim.Native.Nat.{ℕ}
 use lib.ListN.{length}
 use lib.Ieee.{Float}
-use Rattle.numeric.specs.Double.{plusZero}
 use Rattle.decimal.specs.Decimal.{value}
-use Rattle.refusal.specs.Refusal.{numberOf, placeOf, noPlace}
 use Rattle.refusal.specs.Questions.{Question, firstNo, KeptUnlessPassed}
 use Rattle.model.specs.Parameters.{startOf}
 use Rattle.model.specs.TimeGrid.{gridOf}
@@ -20,8 +18,6 @@ use Rattle.walks.specs.declared.Observed.the-variants.{VixSquared}
 use Rattle.walks.specs.Batch.{Batch, batchOn}
 use Rattle.estimates.specs.declared.Payoff.{Payoff}
 use Rattle.estimates.specs.declared.Payoff.the-variants.{Future}
-use Rattle.batch.specs.declared.Priced.{Priced}
-use Rattle.batch.specs.declared.Priced.the-variants.{Price, Refused}
 use Rattle.batch.specs.Questions.{strikeQuestions, vanillaAt, pathQuestions, batchQuestions}
 use Rattle.batch.specs.Claim.{BatchAnswer}
 use Rattle.batch.specs.Answered.{BatchAnswered}
@@ -68,33 +64,7 @@ vixBatch i =
     batchOn (simulationOf (i .given)) VixSquared (λ s. rawSquared (formOver i) (s .factors)) false
     (i .order .paths) (i .draws)
 
--- Rules 17.1 and 17.2: payoff and index, each with its standard error, paths and the steps taken;
--- at a refusal zeros, but for the steps
-abbrev pub written : Priced → VixEstimate
-written (Price report) =
-    record {
-      number = 0;
-      place = noPlace;
-      payoff = report .estimates .payoff .mean;
-      «payoff_error» = report .estimates .payoff .error;
-      index = report .estimates .underlying .mean;
-      «index_error» = report .estimates .underlying .error;
-      paths = report .paths;
-      steps = report .steps;
-    }
-written (Refused refusal steps) =
-    record {
-      number = numberOf refusal;
-      place = placeOf refusal;
-      payoff = plusZero;
-      «payoff_error» = plusZero;
-      index = plusZero;
-      «index_error» = plusZero;
-      paths = 0;
-      steps = steps;
-    }
-
--- Rule 18.4: what the claim speaks of
+-- Rules 17.2 and 18.4: every field of the answer, as the claim speaks of it
 abbrev pub read : VixEstimate → BatchAnswer
 read a =
     record {
@@ -117,7 +87,7 @@ throughWorkspace i workspace =
 pub record VixBatchAnswered (i : VixBatchInputs) (work workAfter lent after : List Float)
     (r : VixEstimate) : Type 0 where
   pub batch :
-      BatchAnswered written read
+      BatchAnswered read
       (firstNo (vixBatchQuestions i (length work) (length lent))) (vixBatch i)
       (payoffFor (i .order .payoff)) lent after r
   pub workspace :

@@ -1,4 +1,4 @@
-// The VIX evaluation call: VIX squared and the index at the factors given. The crate terminal
+// The VIX evaluation call: VIX squared and the index at the factors given. The crate qrh
 // exports it to C.
 ghost use mathlib.Core.Path.{_≡_};
 ghost use Prim.Native.Nat.{_≤_};

@@ -73,7 +73,7 @@ pub record Ready (b : Handed) : Type 0 where
 abbrev pub PricedOnceAsked :
     Handed → Payoff → List Float → List Float → List Float → Priced → Type 0
 PricedOnceAsked b payoff draws lent after r =
-    BatchAnswered (λ x. x) (answerOf (batchOf b draws))
+    BatchAnswered (answerOf (batchOf b draws))
     (firstNo
     (batchQuestions (b .simulation .grid) (b .mirrored) (b .paths) (length draws)
     (length lent)))

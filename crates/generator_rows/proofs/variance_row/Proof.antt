@@ -12,7 +12,8 @@ use Rattle.model.specs.declared.Kernel.{Kernel}
 use Rattle.model.specs.declared.Params.{Params}
 use Rattle.model.specs.Inner.InUse.{kernelInUse}
 use Rattle.generator_rows.specs.Inner.Appended.{Appended}
-use Rattle.generator_rows.specs.State.{pairsBefore, dimension, integralAt, pairsOfRows, InOrder}
+use Rattle.generator_rows.specs.State.{pairsBefore, dimension, integralAt, pairsOfRows}
+use Rattle.generator_rows.specs.Inner.Order.{InOrder}
 use Rattle.generator_rows.specs.Rows.{meanCoefficient, pairCoefficient, constantCoefficient, varianceRow}
 use Rattle.generator_rows.proofs.Places.{integral-most, first-pair, row-inside}
 use Rattle.generator_rows.proofs.Appending.{appended-one, rows-none, rows-more, order-written, length-of-rows, is-front, length-singles}

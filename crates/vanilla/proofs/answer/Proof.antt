@@ -2,7 +2,7 @@
 use mathlib.Core.Path.{sym, ap}
 use borrow.Author.Needs.{needs}
 use Rattle.numeric.proofs.Doubles.{zero-is}
-use Rattle.vanilla.specs.Call.{written}
+use Rattle.vanilla.specs.Inner.Answer.{written}
 use Rattle.vanilla.proofs.answer.Statement.{statement}
 use Rattle.vanilla.proofs.answer.Tie as tie
 

@@ -1,7 +1,7 @@
 -- `answer` meets its contract. Assumes nothing.
 use mathlib.Core.Path.{sym, ap}
 use Rattle.numeric.proofs.Doubles.{zero-is}
-use Rattle.vix_batch.specs.Call.{written}
+use Rattle.vix_batch.specs.Inner.Answer.{written}
 use borrow.Author.Needs.{needs}
 use Rattle.vix_batch.proofs.answer.Statement.{statement}
 use Rattle.vix_batch.proofs.answer.Tie as tie

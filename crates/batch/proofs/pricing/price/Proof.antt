@@ -14,7 +14,7 @@ enum-known-asked c = search needs
 
 returns : tie.Need-returns
 returns c =
-    refused-answered _ _ _ _ _ _ (sym (c .before .before .before .batch-questions .ensures) ∙ c .before .asked .given .1) refl
+    refused-answered _ _ _ _ _ (sym (c .before .before .before .batch-questions .ensures) ∙ c .before .asked .given .1) refl
 
 enum-told : tie.Need-enum-told
 enum-told c = search needs
