@@ -36,7 +36,7 @@ kernelQuestions weights discounts =
 
 -- ---- the parameters
 
--- initial factor i, counted from 1
+-- Rule 14.5: initial factor i, counted from 1, and 1 of it
 abbrev pub factorAt : List Decimal → ℕ → Decimal
 factorAt factors i = getD factors (pred i) zeroDecimal
 

@@ -48,6 +48,7 @@ countsOf VixSquared paths nonPositive = paths ∷ []
 abbrev pub noDoubles : List Float
 noDoubles = plusZero ∷ plusZero ∷ plusZero ∷ plusZero ∷ []
 
+-- Rule 17.1: of a refusal
 abbrev pub refusedAnswer : Observed → ℕ → Refusal → BatchAnswer
 refusedAnswer observed steps refusal =
     record {
@@ -58,6 +59,7 @@ refusedAnswer observed steps refusal =
       steps = steps;
     }
 
+-- Rule 17.2: of a report
 abbrev pub pricedAnswer : Observed → Report → BatchAnswer
 pricedAnswer observed r =
     let e = r .estimates in
@@ -70,22 +72,23 @@ pricedAnswer observed r =
       steps = r .steps;
     }
 
+-- Rules 17.1 and 17.2: of each case of a price
 abbrev pub answerOf : Batch → Priced → BatchAnswer
 answerOf b (Price report) = pricedAnswer (b .observed) report
 answerOf b (Refused refusal steps) = refusedAnswer (b .observed) steps refusal
 
 -- ---- the plain walks
 
--- i is one of 1, .. n: paths, steps and segments count from 1
+-- Rule 18.5: i is one of 1, .. n: paths, steps and segments count from 1
 pub record OneTo (n i : ℕ) : Type 0 where
   pub from : 1 ≤ i
   pub upto : i ≤ n
 
--- the state of path p after k steps of its plain walk
+-- Rule 18.5: the state of path p after k steps of its plain walk
 abbrev pub stateOf : Batch → ℕ → ℕ → State
 stateOf b p k = stateAfter (walkOf b p) k
 
--- spot, z and variance of path p are finite after step k
+-- Rule 18.7: spot, z and variance of path p are finite after step k
 abbrev pub FiniteAt : Batch → ℕ → ℕ → Type 0
 FiniteAt b p k = finiteness (stateOf b p k) ≡ Finite
 
@@ -128,7 +131,7 @@ pub record SomeStepFails (b : Batch) : Type 0 where
   pub is-step : OneTo (b .simulation .grid .total) step
   pub fails : FiniteAt b path step → ⊥
 
--- each step of the paths before p is finite
+-- Rule 18.7: each step of the paths before p is finite
 abbrev pub FiniteBefore : Batch → ℕ → Type 0
 FiniteBefore b p = (r k : ℕ) → 1 ≤ r → r < p → OneTo (b .simulation .grid .total) k → FiniteAt b r k
 
@@ -153,8 +156,8 @@ pub record NamesFirst (b : Batch) (answer : BatchAnswer) : Type 0 where
 
 -- ---- what the batch reports
 
--- Rule 18.8: what is made of the state that each path ends with, after N steps; and paths × N steps
--- are taken
+-- Rule 18.8: what is made of the states that the paths end with, after N steps, and of how many
+-- paths were non-positive; and paths × N steps are taken
 unfoldable pub reportOf : Batch → Payoff → BatchAnswer
 unfolding stateAfter reported reportWith
 reportOf b payoff =
@@ -175,6 +178,7 @@ pub record Reaches (b : Batch) (p j : ℕ) : Type 0 where
 abbrev pub entry : Batch → List Float → ℕ → ℕ → Float
 entry b table p j = getD table (pred p * b .simulation .grid .count + pred j) nan
 
+-- Rule 18.9: what the table holds after the batch
 pub record Written (b : Batch) (lent after : List Float) : Type 0 where
   pub long : length after ≡ length lent
   -- Excludes a core that writes no observation, and one that works the first step and repeats that

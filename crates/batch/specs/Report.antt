@@ -43,7 +43,7 @@ reported observed payoff last paths refused priced =
     onceAsked (firstNo (lastQuestions observed last paths)) refused
     (unlessNotFinite (notFinite made) refused (priced made))
 
--- a No, with the steps taken by then
+-- Rule 15.1: a No, with the steps taken by then
 abbrev pub refusedAfter : ℕ → Refusal → Priced
 refusedAfter steps refusal = Refused refusal steps
 

@@ -28,18 +28,18 @@ discount k i = getD (k .discounts) i nan
 abbrev pub two : Float
 two = fin false 1 (pos 1)
 
--- -2 × a × b × weight at a mean
+-- Rule 11.3: -2 × a × b × weight at a mean
 unfoldable pub meanCoefficient : Kernel → Params → ℕ → Float
 unfolding mul neg
 meanCoefficient k p i = times (times (times (neg two) (p .a)) (p .b)) (weight k i)
 
--- a × weight × weight at a pair, twice where its two factors differ
+-- Rule 11.3: a × weight × weight at a pair, twice where its two factors differ
 unfoldable pub pairCoefficient : Kernel → Params → ℕ → ℕ → Float
 unfolding mul
 pairCoefficient k p i j =
     times (times (times (cond (eqb i j) one two) (p .a)) (weight k i)) (weight k j)
 
--- a × b × b + c at the constant
+-- Rule 11.3: a × b × b + c at the constant
 unfoldable pub constantCoefficient : Params → Float
 unfolding add mul
 constantCoefficient p = plus (times (times (p .a) (p .b)) (p .b)) (p .c)
@@ -52,12 +52,12 @@ varianceRow k p =
 
 -- ---- Rule 11.4: each entry begins at +0.0, and what is added to it is added in order
 
--- what the entry of a column becomes where a value is added at column `at`
+-- Rule 11.4: what the entry of a column becomes where a value is added at column `at`
 unfoldable pub addedAt : ℕ → Float → ℕ → Float → Float
 unfolding add
 addedAt at value column sum = cond (eqb column at) (plus sum value) sum
 
--- the mean reversion by factor m: (-lambda) × weight
+-- Rule 11.4: the mean reversion by factor m: (-lambda) × weight
 unfoldable pub meanReversion : Kernel → Params → ℕ → Float
 unfolding mul neg
 meanReversion k p m = times (neg (p .lambda)) (weight k m)
@@ -84,7 +84,7 @@ driftEntry k p i j column (suc m) =
     addedAt (pairAt (k .n) i m) (meanReversion k p m) column
     (addedAt (pairAt (k .n) m j) (meanReversion k p m) column (driftEntry k p i j column m))
 
--- and at last eta² × E[V] at every column
+-- Rule 11.6: and at last eta² × E[V] at every column
 unfoldable pub pairRow : Kernel → Params → ℕ → ℕ → List Float
 unfolding tabulate driftEntry varianceRow add mul pairsBefore
 pairRow k p i j =

@@ -6,13 +6,13 @@ use Prim.Native.Nat.{ℕ, zero, suc, _+_, _-_, _*_, _/_, _≤_, _<_, min, max}
 use lib.ListN.{length, getD}
 use lib.Ieee.{Float, nan}
 
--- f 0, f 1, .. f (n - 1), one after the other
+-- Rule 11.1: f 0, f 1, .. f (n - 1), one after the other
 unfoldable pub joined : (ℕ → List Float) → ℕ → List Float
 joined f zero = []
 joined f (suc n) = joined f n ++ f n
 
--- what there is for each pair (i, j) with i ≤ j: for the first k pairs of row i, and for those of
--- the first i rows, of n factors
+-- Rule 11.1: what there is for each pair (i, j) with i ≤ j: for the first k pairs of row i, and for
+-- those of the first i rows, of n factors
 unfoldable pub pairsOfRow : (ℕ → ℕ → List Float) → ℕ → ℕ → List Float
 unfolding joined
 pairsOfRow pair i k = joined (λ m. pair i (i + m)) k

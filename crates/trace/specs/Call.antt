@@ -34,7 +34,7 @@ walkOf i = traceWalk (simulationOf (i .given)) (i .draws)
 
 -- ---- its questions
 
--- how long the lent tables are
+-- Rule 15.2: how long the lent tables are
 abbrev pub lengths : Tables → Lengths
 lengths t =
     record {

@@ -19,7 +19,7 @@ unfoldable pub evaluated : Float → Evaluated
 unfolding lt root
 evaluated squared = evaluatedBy (finite squared) (lt plusZero squared) squared
 
--- the form at a factor state
+-- Rule 13.5: the form at a factor state
 unfoldable pub evaluation : Vix → List Float → Evaluated
 unfolding rawSquared evaluated
 evaluation v factors = evaluated (rawSquared v factors)

@@ -14,7 +14,7 @@ linearValue v factors zero = v .constant
 linearValue v factors (suc k) =
     plus (linearValue v factors k) (times (getD (v .linear) k nan) (getD factors k nan))
 
--- `before`, and then coefficient × factor × factor of the first k pairs of row i
+-- Rule 13.3: `before`, and then coefficient × factor × factor of the first k pairs of row i
 unfoldable pub rowValue : Vix → List Float → ℕ → Float → ℕ → Float
 unfolding add mul
 rowValue v factors i before zero = before
@@ -24,7 +24,7 @@ rowValue v factors i before (suc k) =
     (times (getD (v .pairs) (pairsBefore (v .n) i + k) nan) (getD factors i nan))
     (getD factors (i + k) nan))
 
--- the value with the pairs of the first i rows
+-- Rule 13.3: the value with the pairs of the first i rows
 unfoldable pub valueThrough : Vix → List Float → ℕ → Float
 unfolding linearValue rowValue
 valueThrough v factors zero = linearValue v factors (v .n)

@@ -10,7 +10,8 @@ use Rattle.model.specs.declared.Params.{Params}
 use Rattle.generator_rows.specs.State.{pairsBefore, dimension}
 use Rattle.vix.specs.Build.{momentsFinite}
 
--- 15, the window positive; 1 of it; 16, the workspace of so many doubles 5 × dimension² long
+-- Rule 14.8: 15, the window positive; 1 of it; 16, the workspace of so many doubles
+-- 5 × dimension² long
 unfoldable pub windowQuestions : ℕ → Decimal → ℕ → List Question
 unfolding pairsBefore
 windowQuestions n window workspace =
@@ -19,7 +20,7 @@ windowQuestions n window workspace =
     ∷ asked 16 (eqb workspace (5 * (dimension n * dimension n)))
     ∷ []
 
--- then 17, finite moments
+-- Rule 14.8: then 17, finite moments
 unfoldable pub formQuestions : Kernel → Params → Decimal → ℕ → List Question
 unfolding windowQuestions momentsFinite
 formQuestions k p window workspace =

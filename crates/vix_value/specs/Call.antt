@@ -43,7 +43,7 @@ unfoldable pub givenQuestions : ℕ → Factors → List Question
 givenQuestions n given =
     (asked 10 (eqb (given .count) n) ∷ []) ++ each (factorQuestions (given .factors)) n
 
--- 2 to 4, then 5 to 10 and 1
+-- Rule 15.4: 2 to 4, then 5 to 10 and 1
 unfoldable pub initialQuestions : VixInputs → List Question
 unfolding kernelQuestions paramsQuestions
 initialQuestions i =
