@@ -25,7 +25,7 @@ use Rattle.batch.specs.Claim.{BatchAnswer, OneTo, stateOf, FiniteAt, SomeStepFa
 use Rattle.batch.specs.Claim.{Reaches, reportOf}
 use Rattle.vanilla.specs.Call.{VanillaInputs, vanillaQuestions, vanillaBatch, vanillaPayoff}
 use Rattle.vix_batch.specs.Call.{VixBatchInputs, vixBatchInputs, vixBatchQuestions}
-use Rattle.figures.specs.Given.{bits, decimal, steps, oneStep, modelOf, callAt100, calm}
+use Rattle.figures.specs.Given.{bits, decimal, steps, oneStep, givenOf, callAt100, calm}
 
 -- ---- the batches
 
@@ -60,7 +60,7 @@ mirrored = callAt100 oneStep true (half ∷ [])
 -- a future on the VIX, with a = 0 and the window of P12
 abbrev pub vix : VixBatchInputs
 vix =
-    vixBatchInputs (modelOf calm oneStep)
+    vixBatchInputs (givenOf calm oneStep)
     (record {
       window = decimal 25 2;
       payoff = record { future = true; put = false; strike = decimal 0 0 };

@@ -22,7 +22,7 @@ use Rattle.batch.proofs.Claim.{batch-claim}
 use Rattle.vanilla.specs.Call.{vanillaBatch, vanillaPayoff}
 use Rattle.vix_batch.specs.Call.{vixBatch, payoffFor}
 use Rattle.vix_value.specs.Call.{vixCall}
-use Rattle.figures.specs.Given.{decimal, kernel, withA, params, calm, oneStep, modelOf}
+use Rattle.figures.specs.Given.{decimal, kernel, withA, model, calm, oneStep, givenOf}
 use Rattle.figures.specs.Admitted.{nine, mirrored, vix, lent, priceOfNine, pricedAt}
 
 -- ---- what the questions leave of the model
@@ -52,7 +52,7 @@ at-first P h (suc i) l = absurd (omega (arith, l))
 -- with an a as converted
 admitted :
     (a : Decimal) → magnitude (value a) ≡ value a → Converted (value a)
-    → Admitted (simulationOf (modelOf (withA a) oneStep))
+    → Admitted (simulationOf (givenOf (withA a) oneStep))
 unfolding startOf inRange value round ofBits le fits
 admitted a not-negative converted =
     record {
@@ -74,11 +74,11 @@ admitted a not-negative converted =
       start-read = refl;
     }
 
-params-admitted : Admitted (simulationOf (modelOf params oneStep))
+model-admitted : Admitted (simulationOf (givenOf model oneStep))
 unfolding value round ofBits le fits
-params-admitted = admitted (decimal 1 0) refl (record { double = refl; small = refl })
+model-admitted = admitted (decimal 1 0) refl (record { double = refl; small = refl })
 
-calm-admitted : Admitted (simulationOf (modelOf calm oneStep))
+calm-admitted : Admitted (simulationOf (givenOf calm oneStep))
 unfolding value round ofBits le fits
 calm-admitted = admitted (decimal 0 0) refl (record { double = refl; small = refl })
 
@@ -90,7 +90,7 @@ pub nine-claimed :
     (value (decimal 150 0) ∷ plusZero ∷ []) priceOfNine
 unfolding startOf gridOf tableAfter pricedRun value round ofBits
 nine-claimed =
-    batch-claim (vanillaBatch nine) (vanillaPayoff nine) one-laid params-admitted lent refl
+    batch-claim (vanillaBatch nine) (vanillaPayoff nine) one-laid model-admitted lent refl
 
 -- spots 150 and 50
 pub mirrored-claimed :
@@ -100,7 +100,7 @@ pub mirrored-claimed :
     (value (decimal 50 0)) (2 ∷ 0 ∷ []))
 unfolding startOf gridOf tableAfter pricedRun value round ofBits
 mirrored-claimed =
-    batch-claim (vanillaBatch mirrored) (vanillaPayoff mirrored) one-laid params-admitted lent refl
+    batch-claim (vanillaBatch mirrored) (vanillaPayoff mirrored) one-laid model-admitted lent refl
 
 -- VIX squared 40000 and index 200, on both paths
 pub vix-claimed :

@@ -49,8 +49,8 @@ withA a =
       factors = decimal 0 0 ∷ [];
     }
 
-abbrev pub params : Model
-params = withA (decimal 1 0)
+abbrev pub model : Model
+model = withA (decimal 1 0)
 
 -- with a = 0
 abbrev pub calm : Model
@@ -63,12 +63,12 @@ steps count = record { count = 1; segments = record { dt = decimal 25 2; steps =
 abbrev pub oneStep : Schedule
 oneStep = steps 1
 
-abbrev pub modelOf : Model → Schedule → Given
-modelOf p segments = given weights discounts p segments
+abbrev pub givenOf : Model → Schedule → Given
+givenOf model schedule = given weights discounts model schedule
 
 -- a call at 100 over two paths
 abbrev pub callAt100 : Schedule → Bool → List Float → VanillaInputs
-callAt100 segments mirrored draws =
-    vanillaInputs (modelOf params segments)
+callAt100 schedule mirrored draws =
+    vanillaInputs (givenOf model schedule)
     (record { put = false; strike = decimal 100 0; mirrored = mirrored; paths = 2 })
     draws

@@ -25,8 +25,8 @@ use Rattle.batch.specs.Claim.{answerOf}
 use Rattle.qrh.specs.Conversion.{conversion}
 use Rattle.vix_value.specs.declared.Factors.{Factors}
 use Rattle.vix_value.specs.Call.{vixInputs, vixCall}
-use Rattle.figures.specs.Given.{bits, decimal, weights, discounts, params, calm, oneStep}
-use Rattle.figures.specs.Given.{modelOf, callAt100}
+use Rattle.figures.specs.Given.{bits, decimal, weights, discounts, model, calm, oneStep}
+use Rattle.figures.specs.Given.{givenOf, callAt100}
 
 -- an answer's number and place, its doubles and its whole numbers
 pub record Figure : Type 0 where
@@ -58,7 +58,7 @@ after table = getD table 1 nan
 -- a trace of one step: spot, factor, z and variance after it
 abbrev pub stepped : Float → Figure
 stepped draw =
-    let i = traceInputs (modelOf params oneStep) (draw ∷ []) in
+    let i = traceInputs (givenOf model oneStep) (draw ∷ []) in
     let room = tables (lent 2) (lent 2) (lent 2) (lent 2) in
     let a = traceCall i room in
     let t = traceTables i room in

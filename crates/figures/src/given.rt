@@ -24,7 +24,7 @@ pub(crate) fn quarter() -> Decimal {
 }
 
 // The parameters with these a, number of factors and value of each.
-pub(crate) fn params(a: u64, factor_count: usize, factor: u64) -> Model {
+pub(crate) fn model_with(a: u64, factor_count: usize, factor: u64) -> Model {
     Model {
         a: whole(a),
         b: whole(0),

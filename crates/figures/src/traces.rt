@@ -1,5 +1,5 @@
 // P7, P8 and the limits of a model and a schedule: traces.
-use crate::given::params;
+use crate::given::model_with;
 use crate::given::segment;
 use crate::given::two_segments;
 use crate::report::is_at;
@@ -32,7 +32,7 @@ fn one_step(weight: f64, discount: f64, draw: f64) -> Step {
     let answer = qrh::qrh_trace(
         &[weight],
         &[discount],
-        params(1, 1, 0),
+        model_with(1, 1, 0),
         segment(1),
         &[draw],
         &mut spots,
@@ -81,7 +81,7 @@ fn number_of(weights: &[f64], discounts: &[f64]) -> u32 {
     let answer = qrh::qrh_trace(
         weights,
         discounts,
-        params(1, weights.len(), 0),
+        model_with(1, weights.len(), 0),
         segment(1),
         &[0.5],
         &mut spots,
@@ -102,7 +102,7 @@ fn many_steps(steps: u32, number: u32, segment_at: u64, spot: f64) -> bool {
     let answer = qrh::qrh_trace(
         &[1.0],
         &[4.0],
-        params(1, 1, 0),
+        model_with(1, 1, 0),
         segment(steps),
         &[0.0; 4096],
         &mut spots,
@@ -123,7 +123,7 @@ fn uses_own_dt() -> bool {
     let answer = qrh::qrh_trace(
         &[1.0],
         &[4.0],
-        params(1, 1, 1),
+        model_with(1, 1, 1),
         two_segments(),
         &[0.0; 5],
         &mut spots,

@@ -1,5 +1,5 @@
 // P9, P10 and the least number of paths: vanilla batches, a call at 100 over one step.
-use crate::given::params;
+use crate::given::model_with;
 use crate::given::segment;
 use crate::given::whole;
 use crate::report::is_at;
@@ -12,7 +12,7 @@ fn call_at_100(paths: usize, draws: &[f64], observations: &mut [f64]) -> Estimat
     qrh::qrh_vanilla(
         &[1.0],
         &[4.0],
-        params(1, 1, 0),
+        model_with(1, 1, 0),
         segment(1),
         false,
         whole(100),

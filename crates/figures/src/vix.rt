@@ -1,5 +1,5 @@
 // P12: the evaluation of the VIX.
-use crate::given::params;
+use crate::given::model_with;
 use crate::given::quarter;
 use crate::given::whole;
 use crate::report::same;
@@ -15,7 +15,7 @@ fn flat() -> bool {
     let answer = qrh::qrh_vix(
         &[1.0],
         &[4.0],
-        params(0, 1, 0),
+        model_with(0, 1, 0),
         quarter(),
         given,
         &mut workspace,

@@ -39,7 +39,7 @@ pub(crate) fn factors(file: &[u8], at: usize) -> [Decimal; 10] {
     factors
 }
 
-pub(crate) fn params(file: &[u8], at: usize) -> Model {
+pub(crate) fn read_model(file: &[u8], at: usize) -> Model {
     let factors = factors(file, after(at, 13));
     Model {
         a: decimal(file, at),
@@ -53,7 +53,7 @@ pub(crate) fn params(file: &[u8], at: usize) -> Model {
     }
 }
 
-pub(crate) fn after_params(at: usize) -> usize
+pub(crate) fn after_model(at: usize) -> usize
     ensures { λ r. ⌜ r ≡ min (at + 33) 65537 ⌝ }
 {
     after(at, PARAMS)
@@ -81,7 +81,7 @@ fn segment(file: &[u8], at: usize, i: usize) -> Segment
     }
 }
 
-pub(crate) fn segments(file: &[u8], at: usize) -> Schedule {
+pub(crate) fn read_schedule(file: &[u8], at: usize) -> Schedule {
     let mut segments = [segment(file, at, 0); 64];
     let mut i: usize = 1;
     while i < 64 {
@@ -94,7 +94,7 @@ pub(crate) fn segments(file: &[u8], at: usize) -> Schedule {
     }
 }
 
-pub(crate) fn after_segments(file: &[u8], at: usize) -> usize
+pub(crate) fn after_schedule(file: &[u8], at: usize) -> usize
     ensures { λ r. ⌜ r ≤ 65537 ⌝ }
 {
     let written_at = after(at, 2);

@@ -1,6 +1,6 @@
 // Calls 3 to 7 begin with a model: weights, discounts and parameters.
-use crate::inputs::after_params;
-use crate::inputs::params;
+use crate::inputs::after_model;
+use crate::inputs::read_model;
 use crate::tables::list;
 use crate::tables::zeros;
 use crate::traces;
@@ -10,20 +10,20 @@ use crate::words::after_list;
 
 pub(crate) fn replay(file: &[u8], call: u64, at: usize, end: usize) -> bool {
     let discounts_at = after_list(file, at);
-    let params_at = after_list(file, discounts_at);
-    let rest_at = after_params(params_at);
+    let model_at = after_list(file, discounts_at);
+    let rest_at = after_model(model_at);
     let mut weights = zeros();
     let count = list(file, at, &mut weights);
     let weights = &weights[..count];
     let mut discounts = zeros();
     let count = list(file, discounts_at, &mut discounts);
     let discounts = &discounts[..count];
-    let params = params(file, params_at);
+    let model = read_model(file, model_at);
     match call {
-        3 => traces::replay(file, rest_at, end, weights, discounts, params),
-        4 => vanillas::replay(file, rest_at, end, false, weights, discounts, params),
-        5 => vanillas::replay(file, rest_at, end, true, weights, discounts, params),
-        6 => vix::evaluation(file, rest_at, end, weights, discounts, params),
-        _ => vix::batch(file, rest_at, end, weights, discounts, params),
+        3 => traces::replay(file, rest_at, end, weights, discounts, model),
+        4 => vanillas::replay(file, rest_at, end, false, weights, discounts, model),
+        5 => vanillas::replay(file, rest_at, end, true, weights, discounts, model),
+        6 => vix::evaluation(file, rest_at, end, weights, discounts, model),
+        _ => vix::batch(file, rest_at, end, weights, discounts, model),
     }
 }

@@ -1,6 +1,6 @@
 // Call 3: a trace.
-use crate::inputs::after_segments;
-use crate::inputs::segments;
+use crate::inputs::after_schedule;
+use crate::inputs::read_schedule;
 use crate::outcome::after_head;
 use crate::outcome::same_counts;
 use crate::outcome::same_head;
@@ -46,8 +46,8 @@ fn traced(
     end: usize,
     weights: &[f64],
     discounts: &[f64],
-    params: Model,
-    segments: Schedule,
+    model: Model,
+    schedule: Schedule,
     draws: &[f64],
 ) -> bool {
     let outcome_at = after(at, 4);
@@ -63,7 +63,7 @@ fn traced(
     let mut factors = zeros();
     let count = lend(file, after(at, 3), 4, &mut factors);
     let f = &mut factors[..count];
-    let answer = qrh::qrh_trace(weights, discounts, params, segments, draws, s, v, z, f);
+    let answer = qrh::qrh_trace(weights, discounts, model, schedule, draws, s, v, z, f);
     same_answer(file, outcome_at, answer)
         & same_tables(
             file,
@@ -82,11 +82,11 @@ pub(crate) fn replay(
     end: usize,
     weights: &[f64],
     discounts: &[f64],
-    params: Model,
+    model: Model,
 ) -> bool {
-    let draws_at = after_segments(file, at);
+    let draws_at = after_schedule(file, at);
     let lengths_at = after_list(file, draws_at);
-    let segments = segments(file, at);
+    let schedule = read_schedule(file, at);
     let mut draws = zeros();
     let count = list(file, draws_at, &mut draws);
     traced(
@@ -95,8 +95,8 @@ pub(crate) fn replay(
         end,
         weights,
         discounts,
-        params,
-        segments,
+        model,
+        schedule,
         &draws[..count],
     )
 }

@@ -1,8 +1,8 @@
 // Calls 4 and 5: a vanilla batch, ordinary and mirrored.
-use crate::inputs::after_segments;
+use crate::inputs::after_schedule;
 use crate::inputs::decimal;
 use crate::inputs::flag;
-use crate::inputs::segments;
+use crate::inputs::read_schedule;
 use crate::inputs::size;
 use crate::outcome::after_head;
 use crate::outcome::same_counts;
@@ -24,8 +24,8 @@ fn price(
     mirrored: bool,
     weights: &[f64],
     discounts: &[f64],
-    params: Model,
-    segments: Schedule,
+    model: Model,
+    schedule: Schedule,
     put: bool,
     strike: Decimal,
     paths: usize,
@@ -36,8 +36,8 @@ fn price(
         return qrh::qrh_mirrored(
             weights,
             discounts,
-            params,
-            segments,
+            model,
+            schedule,
             put,
             strike,
             paths,
@@ -48,8 +48,8 @@ fn price(
     qrh::qrh_vanilla(
         weights,
         discounts,
-        params,
-        segments,
+        model,
+        schedule,
         put,
         strike,
         paths,
@@ -81,14 +81,14 @@ pub(crate) fn replay(
     mirrored: bool,
     weights: &[f64],
     discounts: &[f64],
-    params: Model,
+    model: Model,
 ) -> bool {
-    let put_at = after_segments(file, at);
+    let put_at = after_schedule(file, at);
     let paths_at = after(put_at, 3);
     let draws_at = after(paths_at, 1);
     let length_at = after_list(file, draws_at);
     let outcome_at = after(length_at, 1);
-    let segments = segments(file, at);
+    let schedule = read_schedule(file, at);
     let put = flag(file, put_at);
     let strike = decimal(file, after(put_at, 1));
     let paths = size(file, paths_at);
@@ -102,8 +102,8 @@ pub(crate) fn replay(
         mirrored,
         weights,
         discounts,
-        params,
-        segments,
+        model,
+        schedule,
         put,
         strike,
         paths,

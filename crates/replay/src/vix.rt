@@ -1,9 +1,9 @@
 // Calls 6 and 7: the evaluation of the VIX, and a VIX batch.
-use crate::inputs::after_segments;
+use crate::inputs::after_schedule;
 use crate::inputs::decimal;
 use crate::inputs::factors;
 use crate::inputs::flag;
-use crate::inputs::segments;
+use crate::inputs::read_schedule;
 use crate::inputs::size;
 use crate::outcome::after_head;
 use crate::outcome::same_counts;
@@ -46,7 +46,7 @@ pub(crate) fn evaluation(
     end: usize,
     weights: &[f64],
     discounts: &[f64],
-    params: Model,
+    model: Model,
 ) -> bool {
     let given_at = after(at, 2);
     let length_at = after(given_at, 21);
@@ -56,7 +56,7 @@ pub(crate) fn evaluation(
     let mut room = workspace();
     let count = lend(file, length_at, 1, &mut room);
     let work = &mut room[..count];
-    let answer = qrh::qrh_vix(weights, discounts, params, window, given, work);
+    let answer = qrh::qrh_vix(weights, discounts, model, window, given, work);
     let room_at = after(after_head(outcome_at), 2);
     same_evaluation(file, outcome_at, answer)
         & same_workspace(file, room_at, 1, &room)
@@ -95,8 +95,8 @@ fn priced(
     end: usize,
     weights: &[f64],
     discounts: &[f64],
-    params: Model,
-    segments: Schedule,
+    model: Model,
+    schedule: Schedule,
     window: Decimal,
     payoff: VixPayoff,
     paths: usize,
@@ -114,8 +114,8 @@ fn priced(
     let answer = qrh::qrh_vix_batch(
         weights,
         discounts,
-        params,
-        segments,
+        model,
+        schedule,
         window,
         payoff,
         paths,
@@ -135,13 +135,13 @@ pub(crate) fn batch(
     end: usize,
     weights: &[f64],
     discounts: &[f64],
-    params: Model,
+    model: Model,
 ) -> bool {
-    let window_at = after_segments(file, at);
+    let window_at = after_schedule(file, at);
     let paths_at = after(window_at, 6);
     let draws_at = after(paths_at, 1);
     let lengths_at = after_list(file, draws_at);
-    let segments = segments(file, at);
+    let schedule = read_schedule(file, at);
     let window = decimal(file, window_at);
     let payoff = payoff(file, after(window_at, 2));
     let paths = size(file, paths_at);
@@ -153,8 +153,8 @@ pub(crate) fn batch(
         end,
         weights,
         discounts,
-        params,
-        segments,
+        model,
+        schedule,
         window,
         payoff,
         paths,

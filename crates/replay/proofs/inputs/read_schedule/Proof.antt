@@ -3,8 +3,8 @@ use borrow.Author.Needs.{needs}
 use mathlib.Core.Path.{_≡_}
 use Prim.Native.Nat.{_≤_, _-_}
 use lib.ListN.{length}
-use Rattle.replay.proofs.inputs.segments.Statement.{statement}
-use Rattle.replay.proofs.inputs.segments.Tie as tie
+use Rattle.replay.proofs.inputs.read_schedule.Statement.{statement}
+use Rattle.replay.proofs.inputs.read_schedule.Tie as tie
 
 abbrev Inv-loop : tie.InvT-loop
 Inv-loop file at segments₀ i₀ segments i = (i ≤ 64) × (length segments ≡ 64)
@@ -42,8 +42,8 @@ size-requires c κs = search needs
 returns : tie.Need-returns Inv-loop μ-loop
 returns c = search needs
 
-pub segments-spec : {M : Type 1} → statement M
-segments-spec =
+pub read-schedule-spec : {M : Type 1} → statement M
+read-schedule-spec =
     tie.close
     (tie.spec
     Inv-loop
