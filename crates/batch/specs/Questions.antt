@@ -24,6 +24,7 @@ abbrev pub styleOf : Bool → Style
 styleOf true = Put
 styleOf false = Call
 
+-- Rule 10.5: that vanilla
 abbrev pub vanillaAt : Bool → Decimal → Payoff
 vanillaAt put strike = Vanilla (styleOf put) (value strike)
 

@@ -15,6 +15,7 @@ use Rattle.estimates.specs.Payoff.{payoffOf}
 abbrev pub noMoments : Moments
 noMoments = record { count = plusZero; mean = plusZero; «squared_deviations» = plusZero }
 
+-- Rule 10.1: with the value v more
 unfoldable pub withValue : Moments → Float → Moments
 unfolding add sub mul div
 withValue m v =
@@ -31,6 +32,7 @@ withValue m v =
 abbrev pub noPaths : Tally
 noPaths = record { payoffs = noMoments; underlyings = noMoments }
 
+-- Rule 10.2: with one path more, whose underlying is u
 unfoldable pub withPath : Payoff → Tally → Float → Tally
 unfolding withValue payoffOf
 withPath payoff t u =
@@ -67,6 +69,7 @@ firstOfFour true true false d = 3
 firstOfFour true true true false = 4
 firstOfFour true true true true = 0
 
+-- Rule 14.12: in the order of rule 10.6
 unfoldable pub notFinite : Estimates → ℕ
 notFinite e =
     firstOfFour (finite (e .payoff .mean)) (finite (e .payoff .error))

@@ -23,6 +23,7 @@ pub record MatrixInputs : Type 0 where
   pub output : List Float
   pub workspace : List Float
 
+-- Rule 15.6: what it is given
 abbrev pub matrixInputs : ℕ → List Float → List Float → List Float → MatrixInputs
 matrixInputs dimension input output workspace =
     record { dimension = dimension; input = input; output = output; workspace = workspace }

@@ -19,6 +19,7 @@ use Rattle.generator_rows.specs.State.{inStateOrder, pairsBefore, pairAt
 
 -- ---- Rule 11.3: E[V] as a row over the state
 
+-- Rule 11.3: weight i and discount i
 abbrev pub weight : Kernel → ℕ → Float
 weight k i = getD (k .weights) i nan
 
@@ -44,6 +45,7 @@ unfoldable pub constantCoefficient : Params → Float
 unfolding add mul
 constantCoefficient p = plus (times (times (p .a) (p .b)) (p .b)) (p .c)
 
+-- Rule 11.3: E[V] as a row over the state
 unfoldable pub varianceRow : Kernel → Params → List Float
 unfolding inStateOrder meanCoefficient pairCoefficient constantCoefficient
 varianceRow k p =
@@ -70,6 +72,7 @@ meanEntry k p i column zero = addedAt i (neg (discount k i)) column plusZero
 meanEntry k p i column (suc m) =
     addedAt m (meanReversion k p m) column (meanEntry k p i column m)
 
+-- Rule 11.5: the whole row
 unfoldable pub meanRow : Kernel → Params → ℕ → List Float
 unfolding tabulate meanEntry pairsBefore
 meanRow k p i = tabulate (dimension (k .n)) (λ column. meanEntry k p i column (k .n))

@@ -44,5 +44,6 @@ integralAt n = n + pairsBefore n n
 abbrev pub constantAt : ℕ → ℕ
 constantAt n = integralAt n + 1
 
+-- Rule 11.2: how long the state is
 abbrev pub dimension : ℕ → ℕ
 dimension n = integralAt n + 2

@@ -18,6 +18,7 @@ pub record RunStop : Type 0 where
   pub path : ℕ
   pub stop : Stop
 
+-- Rule 9.5: a stop of path p, if it has one
 abbrev pub onPath : ℕ → Option Stop → Option RunStop
 onPath p none = none
 onPath p (some s) = some (record { path = p; stop = s })

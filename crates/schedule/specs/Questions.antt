@@ -20,6 +20,7 @@ questionsOf s i total =
     ∷ scaleQuestion (s .dt)
     ∷ []
 
+-- Rule 14.6: of segment i
 abbrev pub segmentQuestions : Schedule → ℕ → List Question
 segmentQuestions g i = questionsOf (segmentAt g i) i (stepsThrough g i)
 

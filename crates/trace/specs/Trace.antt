@@ -21,6 +21,7 @@ abbrev pub answerOf : ℕ → Option Stop → Traced
 answerOf total none = Done total
 answerOf total (some stop) = NonFinite (stop .step) (stop .quantity)
 
+-- Rule 8.2: of the whole walk
 unfoldable pub traceAnswer : Walk → Traced
 unfolding stopWithin
 traceAnswer w = let total = w .simulation .grid .total in answerOf total (stopWithin w total)

@@ -43,6 +43,7 @@ vanillaBatch i =
     batchOn (simulationOf (i .given)) Spot (λ s. s .spot) (i .order .mirrored) (i .order .paths)
     (i .draws)
 
+-- Rule 10.5: the payoff of its order
 abbrev pub vanillaPayoff : VanillaInputs → Payoff
 vanillaPayoff i = vanillaAt (i .order .put) (i .order .strike)
 

@@ -15,6 +15,7 @@ evaluatedBy false above squared = NotFinite
 evaluatedBy true false squared = NotPositive
 evaluatedBy true true squared = Done squared (root binary64 squared)
 
+-- Rule 13.5: of a VIX squared
 unfoldable pub evaluated : Float → Evaluated
 unfolding lt root
 evaluated squared = evaluatedBy (finite squared) (lt plusZero squared) squared
