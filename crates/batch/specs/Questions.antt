@@ -19,12 +19,12 @@ use Rattle.estimates.specs.declared.Payoff.the-variants.{Vanilla}
 abbrev pub strikeQuestions : Decimal → List Question
 strikeQuestions strike = asked 18 (not (isNegative strike)) ∷ scaleQuestion strike ∷ []
 
--- Rule 10.5: a call or a put at its strike as converted
+-- Rule 10.5: a flag that is set says put
 abbrev pub styleOf : Bool → Style
 styleOf true = Put
 styleOf false = Call
 
--- Rule 10.5: that vanilla
+-- Rule 10.5: a call or a put at its strike as converted
 abbrev pub vanillaAt : Bool → Decimal → Payoff
 vanillaAt put strike = Vanilla (styleOf put) (value strike)
 

@@ -11,7 +11,7 @@ use Rattle.estimates.specs.declared.MeanAndError.{MeanAndError}
 use Rattle.estimates.specs.declared.Estimates.{Estimates}
 use Rattle.estimates.specs.Payoff.{payoffOf}
 
--- Rule 10.1: from zeros, and with one value more
+-- Rule 10.1: from zeros
 abbrev pub noMoments : Moments
 noMoments = record { count = plusZero; mean = plusZero; «squared_deviations» = plusZero }
 
@@ -28,7 +28,7 @@ withValue m v =
       «squared_deviations» = plus (m .«squared_deviations») (times e (minus v mean));
     }
 
--- Rule 10.2: of what the paths pay, and of the underlyings; with a path more, whose underlying is u
+-- Rule 10.2: of what the paths pay, and of the underlyings, before the first path
 abbrev pub noPaths : Tally
 noPaths = record { payoffs = noMoments; underlyings = noMoments }
 
