@@ -1,5 +1,6 @@
-/* Prices an index call and put, their mirrored twins, and a VIX future, call and put, and says the
-   answers in words. The first argument is the number of paths, the second the seed. */
+/* Prices an index call, put and down-and-out put, the mirrored twins of call and put, and a VIX
+   future, call and put, and says the answers in words. The first argument is the number of paths,
+   the second the seed. */
 #define _POSIX_C_SOURCE 200809L
 #include "sample.h"
 #include <time.h>
@@ -38,7 +39,8 @@ int main(int count, char **words) {
     size_t needed = paths * THREE_MONTHS, half = needed / 2;
     qrh_model model = sample_model();
     qrh_schedule schedule = sample_schedule();
-    qrh_decimal at_100 = decimal("100"), at_20 = decimal("20"), window = sample_window();
+    qrh_decimal at_100 = decimal("100"), at_90 = decimal("90"), at_20 = decimal("20");
+    qrh_decimal window = sample_window();
     qrh_factors today = {.count = FACTORS};
     memcpy(today.factors, model.factors, sizeof today.factors);
     double *draws = table(needed), *observations = table(paths * SEGMENTS);
@@ -58,7 +60,7 @@ int main(int count, char **words) {
            1e3 * (seconds() - since));
 
     printf("\nThe index, three months ahead\n");
-    qrh_estimate call, put;
+    qrh_estimate call, put, down_and_out;
     since = seconds();
     call = qrh_vanilla(weights, FACTORS, discounts, FACTORS, model, schedule, false, at_100, paths,
                        draws, needed, observations, paths * SEGMENTS);
@@ -71,6 +73,12 @@ int main(int count, char **words) {
                       draws, needed, observations, paths * SEGMENTS);
     must_answer("qrh_vanilla", put.number, put.place);
     say("A put at 100 is worth:", put.price, put.price_error, since);
+    since = seconds();
+    down_and_out = qrh_down_and_out(weights, FACTORS, discounts, FACTORS, model, schedule, at_100,
+                                    at_90, paths, draws, needed, observations, paths * SEGMENTS);
+    must_answer("qrh_down_and_out", down_and_out.number, down_and_out.place);
+    say("A put at 100 that vanishes at 90 is worth:", down_and_out.price, down_and_out.price_error,
+        since);
     printf(
         "  The mean spot is %.4f, standard error %.4f; it is a martingale, so 100 is expected.\n",
         call.spot_mean, call.spot_error);

@@ -39,7 +39,8 @@
     23  a path's last VIX squared is not finite (path; none from qrh_vix)
     24  a path's last VIX squared is not above zero (path; none from qrh_vix)
     25  an estimate is not finite (which of the four)
-    26  the dimension is not 1 to 67, or a matrix is not dimension^2 doubles long */
+    26  the dimension is not 1 to 67, or a matrix is not dimension^2 doubles long
+    27  the barrier is not above zero */
 #ifndef QRH_H
 #define QRH_H
 
@@ -181,6 +182,28 @@ qrh_estimate qrh_mirrored(
     const double *discounts, size_t discounts_length,
     qrh_model model, qrh_schedule schedule,
     bool put, qrh_decimal strike, size_t paths,
+    const double *draws, size_t draws_length,
+    double *observations, size_t observations_length);
+
+/* The price of a put on the spot that vanishes at a barrier: a path pays 0 where its lowest spot,
+   over the start and all N steps, is at or below the barrier, and else what the put pays. Draws and
+   table as in qrh_vanilla. Asks 2 to 10, 1, 11 to 14 with 1 of each dt, 18 and 1 of the strike, 27
+   and 1 of the barrier, 19, 20, 21; 22 step by step; 25 at the end. The observations are written as
+   in qrh_vanilla. */
+qrh_estimate qrh_down_and_out(
+    const double *weights, size_t weights_length,
+    const double *discounts, size_t discounts_length,
+    qrh_model model, qrh_schedule schedule,
+    qrh_decimal strike, qrh_decimal barrier, size_t paths,
+    const double *draws, size_t draws_length,
+    double *observations, size_t observations_length);
+
+/* The same over mirrored paths, as in qrh_mirrored: each path has its own lowest spot. */
+qrh_estimate qrh_mirrored_down_and_out(
+    const double *weights, size_t weights_length,
+    const double *discounts, size_t discounts_length,
+    qrh_model model, qrh_schedule schedule,
+    qrh_decimal strike, qrh_decimal barrier, size_t paths,
     const double *draws, size_t draws_length,
     double *observations, size_t observations_length);
 

@@ -8,7 +8,7 @@
 #include <string.h>
 
 /* The refusals are numbered from 1 to this. */
-enum { LAST_REFUSAL = 26 };
+enum { LAST_REFUSAL = 27 };
 
 static int checked, failures, seen[LAST_REFUSAL + 1];
 
@@ -47,7 +47,7 @@ typedef struct {
     qrh_model model;
     qrh_schedule schedule;
     bool put;
-    qrh_decimal strike, window;
+    qrh_decimal strike, barrier, window;
     qrh_vix_payoff payoff;
     qrh_factors given;
     size_t paths, table_length, factors_length, workspace_length;
@@ -68,6 +68,7 @@ static inputs figures(void) {
             {whole(1), whole(0), whole(4), whole(1), whole(1), whole(100), 1, {{0, 0, 0, false}}},
         .schedule = {1, {{QUARTER, 1}}},
         .strike = whole(100),
+        .barrier = whole(60),
         .window = QUARTER,
         .payoff = {false, false, whole(100)},
         .given = {1, {{0, 0, 0, false}}},
@@ -160,11 +161,7 @@ static answer trace(const inputs *i) {
 
 static qrh_estimate last_estimate;
 
-static answer vanilla_by(bool mirrored, const inputs *i) {
-    double *table = sevens(i->table_length);
-    qrh_estimate r = (mirrored ? qrh_mirrored : qrh_vanilla)(
-        i->weights, i->weights_length, i->discounts, i->discounts_length, i->model, i->schedule,
-        i->put, i->strike, i->paths, i->draws, i->draws_length, table, i->table_length);
+static answer estimated(qrh_estimate r, double *table, const inputs *i) {
     answer a = answered(r.number, r.place);
     last_estimate = r;
     a.steps = r.steps;
@@ -174,8 +171,27 @@ static answer vanilla_by(bool mirrored, const inputs *i) {
     return a;
 }
 
+static answer vanilla_by(bool mirrored, const inputs *i) {
+    double *table = sevens(i->table_length);
+    qrh_estimate r = (mirrored ? qrh_mirrored : qrh_vanilla)(
+        i->weights, i->weights_length, i->discounts, i->discounts_length, i->model, i->schedule,
+        i->put, i->strike, i->paths, i->draws, i->draws_length, table, i->table_length);
+    return estimated(r, table, i);
+}
+
 static answer vanilla(const inputs *i) { return vanilla_by(false, i); }
 static answer mirrored(const inputs *i) { return vanilla_by(true, i); }
+
+static answer down_and_out_by(bool mirrored, const inputs *i) {
+    double *table = sevens(i->table_length);
+    qrh_estimate r = (mirrored ? qrh_mirrored_down_and_out : qrh_down_and_out)(
+        i->weights, i->weights_length, i->discounts, i->discounts_length, i->model, i->schedule,
+        i->strike, i->barrier, i->paths, i->draws, i->draws_length, table, i->table_length);
+    return estimated(r, table, i);
+}
+
+static answer down_and_out(const inputs *i) { return down_and_out_by(false, i); }
+static answer mirrored_down_and_out(const inputs *i) { return down_and_out_by(true, i); }
 
 static qrh_vix_value last_vix;
 
@@ -296,6 +312,40 @@ static void batches(void) {
     forget(&a);
 }
 
+static void barriers(void) {
+    inputs i = figures();
+    i.strike = whole(200);
+    answer a = down_and_out(&i);
+    expect("a put at 200 that vanishes at 60, draws 0.5, -1: price 25, error 25",
+           a.number == 0 && last_estimate.price == 25 && last_estimate.price_error == 25);
+    forget(&a);
+    i.barrier = whole(100);
+    a = down_and_out(&i);
+    expect("... at 100, the spot: price 0, error 0; spot mean 75",
+           a.number == 0 && bits(last_estimate.price) == 0 &&
+               bits(last_estimate.price_error) == 0 && last_estimate.spot_mean == 75);
+    forget(&a);
+    /* The spot falls to 50 and ends above 75. */
+    const double back[4] = {-0.5, 1, -0.5, 0.5};
+    i.draws = back, i.draws_length = 4;
+    i.schedule.segments[0].steps = 2;
+    i.barrier = whole(50);
+    a = down_and_out(&i);
+    expect("two paths to 50 and back, vanishing at 50: price 0",
+           a.number == 0 && last_estimate.price == 0 && a.table[0] > 75 && a.table[1] > 75);
+    forget(&a);
+    i.barrier = whole(49);
+    a = down_and_out(&i);
+    const double price = last_estimate.price, error = last_estimate.price_error;
+    forget(&a);
+    i.put = true;
+    a = vanilla(&i);
+    expect("... vanishing at 49: the put's own price and error",
+           a.number == 0 && price > 99 && error > 0 && bits(price) == bits(last_estimate.price) &&
+               bits(error) == bits(last_estimate.price_error));
+    forget(&a);
+}
+
 static void vixes(void) {
     inputs i = figures();
     i.model.a = whole(0);
@@ -380,31 +430,45 @@ static inputs rises_and_a_fall(void) {
     return i;
 }
 
+/* The last estimate and its table, value by value. No two of the doubles wanted are equal. */
+static void is_estimate(const char *what, answer a, qrh_estimate want, const double *spots) {
+    qrh_estimate e = last_estimate;
+    expect(what, e.number == 0 && e.price == want.price);
+    expect("... its error", e.price_error == want.price_error);
+    expect("... spot mean", e.spot_mean == want.spot_mean);
+    expect("... its error", e.spot_error == want.spot_error);
+    expect("... paths", e.paths == want.paths);
+    expect("... non-positive paths", e.non_positive == want.non_positive);
+    expect("... steps", e.steps == want.steps);
+    expect("... observations", holds(a.table, spots, 4));
+    forget(&a);
+}
+
 static void places_of_a_batch(void) {
     const double spots[4] = {150, 150, 150, 0}, mirrors[4] = {150, 50, 150, 50};
+    qrh_estimate want = {.price = 30,
+                         .price_error = 10,
+                         .spot_mean = 112.5,
+                         .spot_error = 37.5,
+                         .paths = 4,
+                         .non_positive = 1,
+                         .steps = 8};
     inputs i = rises_and_a_fall();
-    answer a = vanilla(&i);
-    qrh_estimate e = last_estimate;
-    expect("a call over three rises and a fall: price 30", e.number == 0 && e.price == 30);
-    expect("... its error 10", e.price_error == 10);
-    expect("... spot mean 112.5", e.spot_mean == 112.5);
-    expect("... its error 37.5", e.spot_error == 37.5);
-    expect("... 4 paths", e.paths == 4);
-    expect("... one non-positive", e.non_positive == 1);
-    expect("... 8 steps", e.steps == 8);
-    expect("... observations 150, 150, 150, 0", holds(a.table, spots, 4));
-    forget(&a);
+    is_estimate("a call over three rises and a fall: price 30", vanilla(&i), want, spots);
+    i.strike = whole(170);
+    want.price = 15, want.price_error = 5;
+    is_estimate("a down-and-out put over them: price 15", down_and_out(&i), want, spots);
+    want = (qrh_estimate){.price = 10,
+                          .price_error = 5.773502691896258,
+                          .spot_mean = 100,
+                          .spot_error = 28.867513459481287,
+                          .paths = 4,
+                          .steps = 8};
     i.draws_length = 4;
-    a = mirrored(&i);
-    e = last_estimate;
-    expect("a call over two rises, mirrored: price 20", e.number == 0 && e.price == 20);
-    expect("... its error 11.5", e.price_error == 11.547005383792516);
-    expect("... spot mean 100", e.spot_mean == 100);
-    expect("... its error 28.9", e.spot_error == 28.867513459481287);
-    expect("... 4 paths, none non-positive", e.paths == 4 && e.non_positive == 0);
-    expect("... 8 steps", e.steps == 8);
-    expect("... observations 150, 50, 150, 50", holds(a.table, mirrors, 4));
-    forget(&a);
+    is_estimate("it over two rises, mirrored: price 10", mirrored_down_and_out(&i), want, mirrors);
+    i.strike = rises_and_a_fall().strike;
+    want.price = 20, want.price_error = 11.547005383792516;
+    is_estimate("a call over them: price 20", mirrored(&i), want, mirrors);
 }
 
 static void places_of_the_vix(void) {
@@ -548,6 +612,30 @@ static void options(void) {
     no("three mirrored paths", mirrored, i, 19);
 }
 
+static void barrier_inputs(void) {
+    inputs i = figures();
+    i.barrier = whole(0);
+    no("barrier zero", down_and_out, i, 27);
+    i.barrier = MINUS_ONE;
+    no("barrier below zero, mirrored", mirrored_down_and_out, i, 27);
+    i.barrier = decimal(true, 0, 0, 255);
+    i.paths = 1;
+    no("barrier minus zero, before one path", down_and_out, i, 27);
+    i.strike = MINUS_ONE;
+    no("strike below zero, before a barrier at zero", down_and_out, i, 18);
+    i.strike = TOO_FINE;
+    no("a strike at scale 29, before a barrier at zero", down_and_out, i, 1);
+    i = figures();
+    i.barrier = TOO_FINE;
+    no("a barrier at scale 29", down_and_out, i, 1);
+    no("the same, mirrored", mirrored_down_and_out, i, 1);
+    i.paths = 1;
+    no("the same, before one path", down_and_out, i, 1);
+    i = figures();
+    i.paths = 3;
+    no("three mirrored paths of a down-and-out put", mirrored_down_and_out, i, 19);
+}
+
 static void stops(void) {
     const double infinite[2] = {0.5, INFINITY}, steep[1] = {1e290}, far[1] = {1e200};
     inputs i = figures();
@@ -559,8 +647,10 @@ static void stops(void) {
     i.schedule.segments[0].steps = 4;
     refused("spot, path 2, step 4, 8 steps", vanilla, i, 22, 2, 4, 1, 8, 8, 1);
     refused("the same in a VIX batch", vix_batch, i, 22, 2, 4, 1, 8, 8, 1);
+    refused("the same of a down-and-out put", down_and_out, i, 22, 2, 4, 1, 8, 8, 1);
     i.paths = i.table_length = 4;
     refused("spot, path 3, step 4, 12 steps, mirrored", mirrored, i, 22, 3, 4, 1, 12, 12, 2);
+    refused("the same of a down-and-out put", mirrored_down_and_out, i, 22, 3, 4, 1, 12, 12, 2);
     i = one_step();
     i.draws = infinite + 1;
     refused("spot of a trace, its start written", trace, i, 22, 1, 1, 1, 1, 1, 1);
@@ -580,6 +670,7 @@ static void endings(void) {
     refused("the standard error of the payoff", vanilla, i, 25, 2, 0, 0, 0, 2, 2);
     i.draws = low;
     refused("the standard error of the spot", vanilla, i, 25, 4, 0, 0, 0, 2, 2);
+    refused("the same of a down-and-out put", down_and_out, i, 25, 4, 0, 0, 0, 2, 2);
     i = figures();
     i.model.a = whole(2700);
     i.draws = third;
@@ -600,6 +691,7 @@ int main(void) {
     square_root();
     tracing();
     batches();
+    barriers();
     vixes();
     exponentials();
     places_of_a_trace();
@@ -610,6 +702,7 @@ int main(void) {
     lengths();
     vix_inputs();
     options();
+    barrier_inputs();
     stops();
     endings();
     int missing = 0;

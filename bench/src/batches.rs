@@ -1,5 +1,6 @@
 //! The batches of paths.
 
+use crate::down_and_out::price_down_and_out;
 use crate::inputs::{Draws, dec, model, to_params, to_positive, to_schedule, window};
 use crate::optionstratlib::error::QuadraticRoughHestonError;
 use crate::optionstratlib::quadratic_rough_heston::price_vanilla_quadratic_rough_heston;
@@ -10,7 +11,7 @@ use crate::optionstratlib::quadratic_rough_heston_vix::{
 use crate::optionstratlib::stand_in::OptionStyle;
 use crate::table::Table;
 use crate::{FACTORS, STEPS};
-use qrh::{Model, Refusal, Schedule, Vanilla, VixPayoff, workspace_length};
+use qrh::{DownAndOut, Model, Refusal, Schedule, Vanilla, VixPayoff, workspace_length};
 use std::num::NonZeroUsize;
 
 const PATHS: usize = 4096;
@@ -120,6 +121,51 @@ impl<'a> Batch<'a> {
         );
     }
 
+    /// About half of the paths touch the barrier.
+    fn down_and_out(&self, table: &mut Table, name: impl Into<String>) {
+        let paths = self.paths();
+        let lists: Vec<Vec<f64>> = self.lists().map(<[f64]>::to_vec).collect();
+        let (params, schedule) = (to_params(&self.model), to_schedule(&self.schedule));
+        let put = DownAndOut {
+            strike: dec("100"),
+            barrier: dec("95"),
+        };
+        let mut observations = self.observations();
+        table.compare(
+            name,
+            "a step",
+            self.draws.len(),
+            |out| {
+                let (strike, barrier) = (to_positive(put.strike), to_positive(put.barrier));
+                let price = price_down_and_out(&params, &schedule, strike, barrier, paths, &lists)
+                    .expect("a price");
+                out.extend([
+                    price.price,
+                    price.standard_error,
+                    price.mean_terminal_spot,
+                    price.terminal_spot_standard_error,
+                ]);
+            },
+            |out| {
+                let price = qrh::down_and_out(
+                    &self.model,
+                    &self.schedule,
+                    &put,
+                    paths.get(),
+                    self.draws,
+                    &mut observations,
+                )
+                .expect("a price");
+                out.extend([
+                    price.price,
+                    price.price_error,
+                    price.spot_mean,
+                    price.spot_error,
+                ]);
+            },
+        );
+    }
+
     fn vix(&self, table: &mut Table, name: impl Into<String>) {
         let paths = self.paths();
         let lists: Vec<Vec<f64>> = self.lists().map(<[f64]>::to_vec).collect();
@@ -178,6 +224,7 @@ pub fn batches(table: &mut Table) {
         let batch = Batch::new(n, PATHS, STEPS, &draws);
         batch.vanilla(table, format!("vanilla batch, n = {n}"), false);
         batch.vanilla(table, format!("mirrored batch, n = {n}"), true);
+        batch.down_and_out(table, format!("down-and-out batch, n = {n}"));
         batch.vix(table, format!("VIX batch, n = {n}"));
     }
     for segments in [12, 63] {

@@ -3,11 +3,15 @@
 //! docs/PERFORMANCE.md, unless given `--dry`, or `--only TEXT`, which takes the rows whose name
 //! contains the text.
 //!
-//! The Rust is the copy under oracle/ (its licence is in NOTICE). Its parameters, its schedule and
-//! its lists of draws are made outside the timed part, and it keeps no observations; the core does
-//! all of its work inside the call, questions, conversions and observations included.
+//! The Rust is the copy under oracle/ (its licence is in NOTICE), whose states carry their lowest
+//! spot as the core's do. Its parameters, its schedule and its lists of draws are made outside the
+//! timed part, and it keeps no observations; the core does all of its work inside the call,
+//! questions, conversions and observations included. The library has no down-and-out put: its row
+//! is the judge's, over the same paths.
 
 mod batches;
+#[path = "../../oracle/src/down_and_out.rs"]
+mod down_and_out;
 mod inputs;
 #[allow(dead_code)]
 #[path = "../../oracle/src/optionstratlib/mod.rs"]

@@ -33,9 +33,9 @@ from pathlib import Path as _File
 from typing import NamedTuple
 
 __all__ = [
-    "Call", "Estimate", "Exponential", "FUTURE", "Model", "Path", "Put", "Refusal", "Segment",
-    "Vix", "VixEstimate", "convert", "exponential", "mirrored", "sqrt", "trace", "vanilla", "vix",
-    "vix_batch", "workspace_length",
+    "Call", "DownAndOut", "Estimate", "Exponential", "FUTURE", "Model", "Path", "Put", "Refusal",
+    "Segment", "Vix", "VixEstimate", "convert", "exponential", "mirrored", "sqrt", "trace",
+    "vanilla", "vix", "vix_batch", "workspace_length",
 ]
 
 
@@ -123,12 +123,15 @@ class _Lent:
 
 _KERNEL = [_Read, _Read]
 _BATCH = _KERNEL + [_Model, _Schedule, c_bool, _Decimal, c_size_t, _Read, _Lent]
+_BARRIER_BATCH = _KERNEL + [_Model, _Schedule, _Decimal, _Decimal, c_size_t, _Read, _Lent]
 _CALLS = {
     "qrh_convert": (_Conversion, [_Decimal]),
     "qrh_sqrt": (c_double, [c_double]),
     "qrh_trace": (_Tracing, _KERNEL + [_Model, _Schedule, _Read, _Lent, _Lent, _Lent, _Lent]),
     "qrh_vanilla": (_Estimate, _BATCH),
     "qrh_mirrored": (_Estimate, _BATCH),
+    "qrh_down_and_out": (_Estimate, _BARRIER_BATCH),
+    "qrh_mirrored_down_and_out": (_Estimate, _BARRIER_BATCH),
     "qrh_vix": (_VixValue, _KERNEL + [_Model, _Decimal, _Factors, _Lent]),
     "qrh_vix_batch": (
         _VixEstimate,
@@ -170,7 +173,7 @@ _library = _load()
 class Refusal(ValueError):
     """The core refused a call.
 
-    number    which question was answered No (1 to 26)
+    number    which question was answered No (1 to 27)
     place     where, as far as the number has a place: counted from 1
     steps     the steps taken, at 22 and at 23 to 25 of a batch; else None
     sentence  what was wrong with the input
@@ -214,6 +217,7 @@ _SENTENCES = {
     24: "the VIX squared{of_path} is not above zero",
     25: "{estimate} is not finite",
     26: "the dimension is not 1 to 67, or a matrix is not exactly dimension^2 doubles long",
+    27: "the barrier is not above zero",
 }
 
 # How many numbers a place has.
@@ -380,6 +384,17 @@ class Put:
     strike: object
 
 
+@dataclass(frozen=True)
+class DownAndOut:
+    """A put on the spot, worth nothing on a path whose lowest spot is at or below the barrier.
+
+    The lowest spot is that of every point, the start included.
+    """
+
+    strike: object
+    barrier: object
+
+
 class _Future:
     def __repr__(self):
         return "FUTURE"
@@ -391,7 +406,7 @@ FUTURE = _Future()
 
 def _style(payoff):
     if not isinstance(payoff, (Call, Put)):
-        raise TypeError(f"{payoff!r} is neither a Call nor a Put")
+        raise TypeError(f"{payoff!r} is no payoff of this call")
     return isinstance(payoff, Put), _decimal(payoff.strike)
 
 
@@ -408,7 +423,10 @@ class Path(NamedTuple):
 
 
 class Estimate(NamedTuple):
-    """Of a vanilla batch. `observations`: spots at segments' ends, a row a path, a column a segment."""
+    """Of a batch on the spot.
+
+    `observations` has the spots at segments' ends: a row a path, a column a segment.
+    """
 
     price: float
     price_error: float
@@ -477,24 +495,30 @@ def trace(model, schedule, draws, *, spots=None, variances=None, z=None, factors
     return Path(answer.steps, *(table for _, table in tables))
 
 
-def _batch(name, model, schedule, payoff, paths, draws, observations):
-    put, strike = _style(payoff)
+def _batch(name, barrier_name, model, schedule, payoff, paths, draws, observations):
+    if isinstance(payoff, DownAndOut):
+        name, terms = barrier_name, (_decimal(payoff.strike), _decimal(payoff.barrier))
+    else:
+        terms = _style(payoff)
     schedule, segments, _ = _schedule(schedule)
     paths = _count("the number of paths", paths)
     pair, table = _lent("observations", observations, paths * segments if paths <= 65536 else 0)
     answer = _answered(
-        _library[name](*model._arguments(), schedule, put, strike, paths, *_read(draws), *pair))
+        _library[name](*model._arguments(), schedule, *terms, paths, *_read(draws), *pair))
     return Estimate(*_values(answer), table)
 
 
 def vanilla(model, schedule, payoff, paths, draws, *, observations=None):
-    """The price of a Call or a Put on the spot, from paths x N draws, path by path."""
-    return _batch("qrh_vanilla", model, schedule, payoff, paths, draws, observations)
+    """The price of a Call, Put or DownAndOut on the spot, from paths x N draws, path by path."""
+    return _batch(
+        "qrh_vanilla", "qrh_down_and_out", model, schedule, payoff, paths, draws, observations)
 
 
 def mirrored(model, schedule, payoff, paths, draws, *, observations=None):
     """The same over mirrored paths: every second one takes the draws of the one before, negated."""
-    return _batch("qrh_mirrored", model, schedule, payoff, paths, draws, observations)
+    return _batch(
+        "qrh_mirrored", "qrh_mirrored_down_and_out", model, schedule, payoff, paths, draws,
+        observations)
 
 
 def workspace_length(n):

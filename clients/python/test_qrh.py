@@ -14,7 +14,7 @@ from decimal import Decimal
 from pathlib import Path
 
 import qrh
-from qrh import FUTURE, Call, Put, Refusal, Segment
+from qrh import FUTURE, Call, DownAndOut, Put, Refusal, Segment
 
 try:
     import numpy
@@ -83,6 +83,33 @@ class Figures(unittest.TestCase):
         plain = qrh.vanilla(model(), QUARTER, Put(100), 4, [0.5, -0.5, -1.0, 1.0])
         self.assertEqual(answer.price, plain.price)
 
+    def test_down_and_out(self):
+        # The spots are 100, 150 and 100, 0: the start counts, and so does the barrier itself.
+        for barrier, price, error in [
+            (50, 25.0, 25.0),
+            (99, 25.0, 25.0),
+            ("99.9999999999999999999", 0.0, 0.0),  # as converted it is 100
+            (100, 0.0, 0.0),
+            (1000, 0.0, 0.0),
+        ]:
+            with self.subTest(barrier=barrier):
+                option = DownAndOut(200, barrier)
+                answer = qrh.vanilla(model(), QUARTER, option, 2, [0.5, -1.0])
+                self.assertEqual(answer[:7], (price, error, 75.0, 75.0, 2, 1, 2))
+                self.assertEqual(list(answer.observations), [150.0, 0.0])
+
+    def test_a_spot_that_fell_and_rose_again(self):
+        # Each path has the spot 50 after its first step, and ends above 75.
+        for paths in (2, 4, 6):
+            with self.subTest(paths=paths):
+                given = model(), [("0.25", 2)]
+                draws = [-0.5, 1.0, -0.5, 0.5] * (paths // 2)
+                vanished = qrh.vanilla(*given, DownAndOut(200, 50), paths, draws)
+                self.assertEqual(vanished[:2], (0.0, 0.0))
+                self.assertGreater(min(vanished.observations), 75.0)
+                alive = qrh.vanilla(*given, DownAndOut(200, 49), paths, draws)
+                self.assertEqual(alive, qrh.vanilla(*given, Put(200), paths, draws))
+
     def test_exponential(self):
         answer = qrh.exponential(2, [0, 1, 0, 0])
         self.assertEqual((list(answer.output), answer.squarings), ([1.0, 1.0, 0.0, 1.0], 1))
@@ -138,6 +165,19 @@ class Places(unittest.TestCase):
         self.assertEqual(list(answer.observations), [150.0, 150.0, 150.0, 0.0])
         answer = qrh.mirrored(self.UNEVEN, self.TWO_QUARTERS, Call(110), 4, self.FALL[:4])
         self.assertEqual((answer.price, answer.price_error), (20.0, 11.547005383792516))
+        self.assertEqual((answer.spot_mean, answer.spot_error), (100.0, 28.867513459481287))
+        self.assertEqual((answer.paths, answer.non_positive, answer.steps), (4, 0, 8))
+        self.assertEqual(list(answer.observations), [150.0, 50.0, 150.0, 50.0])
+
+    def test_each_value_of_a_barrier_batch_is_its_own(self):
+        option = DownAndOut(strike=170, barrier=60)
+        answer = qrh.vanilla(self.UNEVEN, self.TWO_QUARTERS, option, 4, self.FALL)
+        self.assertEqual((answer.price, answer.price_error), (15.0, 5.0))
+        self.assertEqual((answer.spot_mean, answer.spot_error), (112.5, 37.5))
+        self.assertEqual((answer.paths, answer.non_positive, answer.steps), (4, 1, 8))
+        self.assertEqual(list(answer.observations), [150.0, 150.0, 150.0, 0.0])
+        answer = qrh.mirrored(self.UNEVEN, self.TWO_QUARTERS, option, 4, self.FALL[:4])
+        self.assertEqual((answer.price, answer.price_error), (10.0, 5.773502691896258))
         self.assertEqual((answer.spot_mean, answer.spot_error), (100.0, 28.867513459481287))
         self.assertEqual((answer.paths, answer.non_positive, answer.steps), (4, 0, 8))
         self.assertEqual(list(answer.observations), [150.0, 50.0, 150.0, 50.0])
@@ -219,6 +259,28 @@ class Refusals(unittest.TestCase):
             self.refused(
                 21, qrh.vanilla, model(), QUARTER, Call(1), 2, [0.5, 0.5], observations=short)
 
+    def test_barriers(self):
+        fine = "1E-29"
+        for number, strike, barrier, paths in [
+            (27, 100, 0, 2),
+            (27, 100, -1, 2),
+            (1, 100, fine, 2),
+            # In the order of the questions: 18 and 1 of the strike, 27 and 1 of the barrier, 19.
+            (18, -1, 0, 1),
+            (1, fine, 0, 1),
+            (27, 100, 0, 1),
+            (1, 100, fine, 1),
+            (19, 100, 50, 1),
+        ]:
+            for call in (qrh.vanilla, qrh.mirrored):
+                with self.subTest(number=number, call=call.__name__):
+                    table = array("d", [7.0, 7.0])
+                    option = DownAndOut(strike, barrier)
+                    self.refused(
+                        number, call, model(), QUARTER, option, paths, [0.5, 0.5],
+                        observations=table)
+                    self.assertEqual(list(table), [7.0, 7.0])
+
     def test_steps_that_are_not_finite(self):
         self.refused(22, qrh.trace, model(), QUARTER, [math.inf], place=(1, 1, 1, 1), steps=1)
         steep = model(eta="1E28")
@@ -283,6 +345,8 @@ class Inputs(unittest.TestCase):
             qrh.vanilla(model(), QUARTER, Call(1), 2.0, [0.5, 0.5])
         with self.assertRaises(TypeError):
             qrh.vanilla(model(), QUARTER, FUTURE, 2, [0.5, 0.5])
+        with self.assertRaises(TypeError):
+            qrh.vix_batch(model(), QUARTER, 1, DownAndOut(100, 50), 2, [0.5, 0.5])
 
     def test_draws(self):
         draws = array("d", [0.5, -1.0])

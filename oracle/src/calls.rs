@@ -3,6 +3,8 @@
 //! that stops, a VIX that is not positive, moments that are not finite), both must agree: that is
 //! asserted, in every build but those of tests/planted.sh.
 
+use crate::cases::Terms;
+use crate::down_and_out::price_down_and_out;
 use crate::edge::{
     self, Conversion, Estimate, Exponentiation, Factors, Tracing, VixEstimate, VixPayoff, VixValue,
 };
@@ -199,6 +201,33 @@ pub fn trace(
     }
 }
 
+/// The spots of one path whose inputs pass the door, the start's first, as far as its steps are
+/// finite.
+#[must_use]
+pub fn spots(
+    weights: &[f64],
+    discounts: &[f64],
+    model: &edge::Model,
+    given: &edge::Schedule,
+    draws: &[f64],
+) -> Vec<f64> {
+    let params = params(weights, discounts, model);
+    let schedule = lay(given);
+    let mut walk = Walk::new(&params, &[]);
+    let mut spots = vec![walk.state.spot];
+    for (i, draw) in draws.iter().enumerate() {
+        let segment = containing(&schedule, i as u64 + 1);
+        if walk
+            .apply(segment.sqrt_dt * draw, segment.dt, i + 1)
+            .is_err()
+        {
+            break;
+        }
+        spots.push(walk.state.spot);
+    }
+    spots
+}
+
 /// The draws of each path: in a mirrored batch path 2i takes those of path 2i - 1 negated.
 fn draws_by_path(draws: &[f64], total: u64, mirrored: bool) -> Vec<Vec<f64>> {
     let mut lists = Vec::new();
@@ -212,7 +241,7 @@ fn draws_by_path(draws: &[f64], total: u64, mirrored: bool) -> Vec<Vec<f64>> {
 }
 
 /// Runs an admitted batch, step by step, and writes its observations; then the Rust's `run_paths`
-/// over the same draws must agree.
+/// over the same draws must agree, in the lowest spot of each path too.
 fn run_batch(
     params: &QuadraticRoughHestonParams,
     schedule: &Schedule,
@@ -223,6 +252,7 @@ fn run_batch(
 ) -> Taken {
     let mut walk = Walk::new(params, &[]);
     let paths = draws.len();
+    let mut lowest = vec![walk.state.spot; paths];
     let taken = questions::batch_steps(paths as u64, ends, table, |path, step| {
         if step == 1 {
             walk = Walk::new(params, &[]);
@@ -230,6 +260,10 @@ fn run_batch(
         let segment = containing(schedule, step);
         let dw = segment.sqrt_dt * draws[path as usize - 1][step as usize - 1];
         let _ = walk.apply(dw, segment.dt, step as usize);
+        let so_far = &mut lowest[path as usize - 1];
+        if walk.state.spot < *so_far {
+            *so_far = walk.state.spot;
+        }
         (seen(&walk.state), observe(&walk.state))
     });
 
@@ -238,20 +272,26 @@ fn run_batch(
         schedule,
         NonZeroUsize::new(paths).expect("asked by then"),
         draws,
-        |_, state: &State, observed: &mut Vec<f64>| observed.push(observe(state)),
+        |_, state: &State, (observed, lowest): &mut (Vec<f64>, f64)| {
+            observed.push(observe(state));
+            *lowest = state.lowest;
+        },
     );
     match runs {
         Ok(runs) => {
             debug_assert!(taken.refused.is_none());
-            let observed: Vec<f64> = runs.into_iter().flat_map(|run| run.observed).collect();
-            debug_assert!(same_tables(table, &observed));
+            let (observed, carried): (Vec<Vec<f64>>, Vec<f64>) =
+                runs.into_iter().map(|run| run.observed).unzip();
+            debug_assert!(same_tables(table, &observed.concat()));
+            // Either zero is as the other.
+            debug_assert_eq!(lowest, carried);
         }
         Err(error) => assert_stop(&taken, &error),
     }
     taken
 }
 
-/// Price a vanilla batch, mirrored or not.
+/// Price a batch on the spot, mirrored or not.
 #[allow(clippy::too_many_arguments)]
 pub fn vanilla(
     mirrored: bool,
@@ -259,8 +299,7 @@ pub fn vanilla(
     discounts: &[f64],
     model: &edge::Model,
     given: &edge::Schedule,
-    put: bool,
-    strike: edge::Decimal,
+    terms: &Terms,
     paths: usize,
     draws: &[f64],
     observations: &mut [f64],
@@ -276,7 +315,7 @@ pub fn vanilla(
         discounts,
         model,
         given,
-        strike,
+        terms,
         mirrored,
         paths,
         draws.len(),
@@ -295,15 +334,26 @@ pub fn vanilla(
     if let Some(no) = taken.refused {
         return refuse(no, taken.steps);
     }
-    let estimate = price_vanilla_quadratic_rough_heston(
-        &params,
-        &schedule,
-        style(put),
-        positive(strike),
-        NonZeroUsize::new(paths).expect("asked by then"),
-        &lists,
-    )
-    .expect("no path stops");
+    let paths = NonZeroUsize::new(paths).expect("asked by then");
+    let priced = match *terms {
+        Terms::Vanilla { put, strike } => price_vanilla_quadratic_rough_heston(
+            &params,
+            &schedule,
+            style(put),
+            positive(strike),
+            paths,
+            &lists,
+        ),
+        Terms::DownAndOut { strike, barrier } => price_down_and_out(
+            &params,
+            &schedule,
+            positive(strike),
+            positive(barrier),
+            paths,
+            &lists,
+        ),
+    };
+    let estimate = priced.expect("no path stops");
     let reported = [
         estimate.price,
         estimate.standard_error,

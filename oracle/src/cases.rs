@@ -6,7 +6,7 @@ use crate::edge::{self, Decimal, Factors, Schedule, VixPayoff};
 use crate::questions;
 
 /// The calls, by the names of their exports without `qrh_`, in the order of their numbers.
-pub const CALLS: [&str; 8] = [
+pub const CALLS: [&str; 10] = [
     "convert",
     "sqrt",
     "trace",
@@ -15,6 +15,8 @@ pub const CALLS: [&str; 8] = [
     "vix",
     "vix_batch",
     "exponential",
+    "down_and_out",
+    "mirrored_down_and_out",
 ];
 
 /// What every call over a model takes.
@@ -23,6 +25,13 @@ pub struct Model {
     pub weights: Vec<f64>,
     pub discounts: Vec<f64>,
     pub inputs: edge::Model,
+}
+
+/// What a batch on the spot pays.
+#[derive(Debug, Clone, Copy, PartialEq)]
+pub enum Terms {
+    Vanilla { put: bool, strike: Decimal },
+    DownAndOut { strike: Decimal, barrier: Decimal },
 }
 
 /// One call. Lent tables are given by their lengths: `lent` fills them.
@@ -37,13 +46,12 @@ pub enum Case {
         /// Of spots, variances, z, factors.
         tables: [usize; 4],
     },
-    /// A vanilla batch, mirrored or not.
+    /// A batch on the spot, mirrored or not.
     Vanilla {
         mirrored: bool,
         model: Model,
         schedule: Schedule,
-        put: bool,
-        strike: Decimal,
+        terms: Terms,
         paths: usize,
         draws: Vec<f64>,
         observations: usize,
@@ -157,9 +165,13 @@ impl Case {
             Case::Sqrt(_) => 1,
             Case::Trace { .. } => 2,
             Case::Vanilla {
-                mirrored: false, ..
-            } => 3,
-            Case::Vanilla { mirrored: true, .. } => 4,
+                mirrored, terms, ..
+            } => match (terms, mirrored) {
+                (Terms::Vanilla { .. }, false) => 3,
+                (Terms::Vanilla { .. }, true) => 4,
+                (Terms::DownAndOut { .. }, false) => 8,
+                (Terms::DownAndOut { .. }, true) => 9,
+            },
             Case::Vix { .. } => 5,
             Case::VixBatch { .. } => 6,
             Case::Exponential { .. } => 7,
@@ -214,8 +226,7 @@ impl Case {
                 mirrored,
                 model,
                 schedule,
-                put,
-                strike,
+                terms,
                 paths,
                 draws,
                 observations,
@@ -227,8 +238,7 @@ impl Case {
                     &model.discounts,
                     &model.inputs,
                     schedule,
-                    *put,
-                    *strike,
+                    terms,
                     *paths,
                     draws,
                     &mut table,

@@ -1,6 +1,6 @@
 //! The checked figures (docs/SPECIFICATION.md, section 19) as cases, for the recorded list.
 
-use crate::cases::{Case, Model};
+use crate::cases::{Case, Model, Terms};
 use crate::edge::{self, Decimal, Factors, Schedule, Segment};
 use crate::generator::decimal;
 
@@ -62,17 +62,35 @@ fn trace(model: Model, schedule: Schedule, draws: &[f64]) -> Case {
     }
 }
 
-fn call_at_100(draws: &[f64]) -> Case {
+/// A batch of paths of so many steps each, in one segment.
+fn batch(terms: Terms, steps: usize, draws: &[f64]) -> Case {
+    let paths = draws.len() / steps;
     Case::Vanilla {
         mirrored: false,
         model: model(),
-        schedule: schedule(&[(quarter(), 1)]),
+        schedule: schedule(&[(quarter(), steps as u32)]),
+        terms,
+        paths,
+        draws: draws.to_vec(),
+        observations: paths,
+    }
+}
+
+fn call_at_100(draws: &[f64]) -> Case {
+    let terms = Terms::Vanilla {
         put: false,
         strike: whole(100),
-        paths: draws.len(),
-        draws: draws.to_vec(),
-        observations: draws.len(),
-    }
+    };
+    batch(terms, 1, draws)
+}
+
+/// A put at 200 that vanishes at a barrier.
+fn put_until(barrier: u128, steps: usize, draws: &[f64]) -> Case {
+    let terms = Terms::DownAndOut {
+        strike: whole(200),
+        barrier: whole(barrier),
+    };
+    batch(terms, steps, draws)
 }
 
 fn exponential(dimension: usize, input: &[f64]) -> Case {
@@ -142,5 +160,14 @@ pub fn figures() -> Vec<Case> {
             schedule(&[(quarter(), 2), (half, 3)]),
             &[0.5, -0.25, 1.0, 0.5, -0.5],
         ),
+        // One path ends at 150, one at 0: both touch 100 at the start, the second alone 50 and 99.
+        put_until(50, 1, &[0.5, -1.0]),
+        put_until(99, 1, &[0.5, -1.0]),
+        put_until(100, 1, &[0.5, -1.0]),
+        // Down to 50, then up to 100.389..: 60 is touched and 49 is not.
+        put_until(60, 2, &[-0.5, 1.0, -0.5, 1.0]),
+        put_until(49, 2, &[-0.5, 1.0, -0.5, 1.0]),
+        // A barrier of zero: 27.
+        put_until(0, 1, &[0.5, -1.0]),
     ]
 }

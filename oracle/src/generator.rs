@@ -1,11 +1,13 @@
 //! Cases from fixed seeds: typical, boundary and damaged inputs, and several refusals at once. The
 //! case with a given seed, call and index is always the same.
 
+mod barriers;
 mod fours;
 
-use crate::cases::{Case, Model};
+use crate::cases::{Case, Model, Terms};
 use crate::edge::{self, Decimal, Factors, Schedule, Segment, VixPayoff};
 use crate::questions::dimension;
+use barriers::Paths;
 
 /// How large cases may become.
 #[derive(Debug, Clone, Copy)]
@@ -44,12 +46,14 @@ pub fn case(seed: u64, call: usize, index: u64, size: Size) -> Case {
         0 => Case::Convert(source.decimal()),
         1 => Case::Sqrt(source.radicand()),
         2 => source.trace(size),
-        3 | 4 if fours => source.vanilla_of_fours(call == 4),
-        3 | 4 => source.vanilla(size, call == 4),
+        3 | 4 if fours => source.vanilla_of_fours(call == 4, false),
+        3 | 4 => source.vanilla(size, call == 4, false),
         5 => source.vix(size),
         6 if fours => source.vix_batch_of_fours(),
         6 => source.vix_batch(size),
         7 => source.exponential(size),
+        8 | 9 if fours => source.vanilla_of_fours(call == 9, true),
+        8 | 9 => source.vanilla(size, call == 9, true),
         _ => panic!("no such call"),
     }
 }
@@ -743,7 +747,29 @@ impl Source {
         ])
     }
 
-    fn vanilla(&mut self, size: Size, mirrored: bool) -> Case {
+    fn vanilla_terms(&mut self) -> Terms {
+        Terms::Vanilla {
+            put: self.flip(),
+            strike: self.strike(),
+        }
+    }
+
+    fn damage_terms(&mut self, terms: &mut Terms) {
+        match terms {
+            Terms::Vanilla { strike, .. } => self.damage_strike(strike),
+            Terms::DownAndOut { strike, barrier } => {
+                let which = self.below(3);
+                if which != 0 {
+                    self.damage_strike(strike);
+                }
+                if which != 1 {
+                    self.damage_barrier(barrier);
+                }
+            }
+        }
+    }
+
+    fn vanilla(&mut self, size: Size, mirrored: bool, barred: bool) -> Case {
         let n = self.count(size);
         let mut model = if self.one_in(6) {
             self.figures()
@@ -763,25 +789,33 @@ impl Source {
         let lists = if mirrored { paths / 2 } else { paths };
         let mut draws = self.draws(&schedule, lists);
         self.steer(&mut model, &schedule, &mut draws);
-        let put = self.flip();
-        let mut strike = self.strike();
+        let mut terms = if barred {
+            self.down_and_out(&Paths {
+                mirrored,
+                model: &model,
+                schedule: &schedule,
+                paths,
+                draws: &draws,
+            })
+        } else {
+            self.vanilla_terms()
+        };
         let mut observations = paths * schedule.count;
         for _ in 0..self.damages() {
-            match self.below(6) {
+            match self.below(if barred { 8 } else { 6 }) {
                 0 => self.damage_model(&mut model),
                 1 => self.damage_schedule(&mut schedule),
-                2 => self.damage_strike(&mut strike),
                 3 => paths = self.damage_paths(paths),
                 4 => self.resize(&mut draws),
-                _ => observations = self.damage_length(observations),
+                5 => observations = self.damage_length(observations),
+                _ => self.damage_terms(&mut terms),
             }
         }
         Case::Vanilla {
             mirrored,
             model,
             schedule,
-            put,
-            strike,
+            terms,
             paths,
             draws,
             observations,

@@ -2,6 +2,7 @@
 
 pub mod calls;
 pub mod cases;
+mod down_and_out;
 pub mod figures;
 pub mod generator;
 pub mod guess;

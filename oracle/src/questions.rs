@@ -3,6 +3,7 @@
 //! own refusals are others; what it needs of the values (a state after a step, an exponential, an
 //! estimate) is handed to it.
 
+use crate::cases::Terms;
 use crate::edge::{self, Decimal, Factors, Schedule, VixPayoff};
 
 /// A No: the number and the place, 0 where there is none.
@@ -140,6 +141,26 @@ fn strike(strike: Decimal) -> Asked<()> {
     scale(strike)
 }
 
+/// 27 and 1 of the barrier.
+fn barrier(barrier: Decimal) -> Asked<()> {
+    ask(above_zero(barrier), 27)?;
+    scale(barrier)
+}
+
+/// 18 and 1 of the strike; of a down-and-out put then 27 and 1 of the barrier.
+fn terms(terms: &Terms) -> Asked<()> {
+    match *terms {
+        Terms::Vanilla { strike: struck, .. } => strike(struck),
+        Terms::DownAndOut {
+            strike: struck,
+            barrier: barred,
+        } => {
+            strike(struck)?;
+            barrier(barred)
+        }
+    }
+}
+
 /// 19 to 21 of a batch.
 fn batch(paths: usize, mirrored: bool, ends: &[u64], draws: usize, table: usize) -> Asked<()> {
     ask((2..=65_536).contains(&paths), 19)?;
@@ -172,14 +193,14 @@ pub fn trace(
     Ok(ends)
 }
 
-/// What a vanilla or a mirrored batch asks before its first step.
+/// What a batch on the spot asks before its first step.
 #[allow(clippy::too_many_arguments)]
 pub fn vanilla(
     weights: &[f64],
     discounts: &[f64],
     model: &edge::Model,
     given: &Schedule,
-    struck: Decimal,
+    paid: &Terms,
     mirrored: bool,
     paths: usize,
     draws: usize,
@@ -188,7 +209,7 @@ pub fn vanilla(
     kernel(weights, discounts)?;
     parameters(weights.len(), model)?;
     let ends = schedule(given)?;
-    strike(struck)?;
+    terms(paid)?;
     batch(paths, mirrored, &ends, draws, table)?;
     Ok(ends)
 }

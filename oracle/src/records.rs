@@ -1,6 +1,6 @@
 //! Recorded cases: README.md has the format. A file is a list of 64-bit words.
 
-use crate::cases::{Case, Model, Outcome, lent};
+use crate::cases::{Case, Model, Outcome, Terms, lent};
 use crate::edge::{self, Decimal, Factors, Schedule, Segment, VixPayoff};
 
 /// The first word of a file: the bytes QRHCASE1.
@@ -162,6 +162,19 @@ impl Words {
         }
     }
 
+    fn terms(&mut self, terms: &Terms) {
+        match *terms {
+            Terms::Vanilla { put, strike } => {
+                self.push(u64::from(put));
+                self.decimal(strike);
+            }
+            Terms::DownAndOut { strike, barrier } => {
+                self.decimal(strike);
+                self.decimal(barrier);
+            }
+        }
+    }
+
     fn case(&mut self, case: &Case) {
         match case {
             Case::Convert(d) => self.decimal(*d),
@@ -181,16 +194,14 @@ impl Words {
                 mirrored: _,
                 model,
                 schedule,
-                put,
-                strike,
+                terms,
                 paths,
                 draws,
                 observations,
             } => {
                 self.model(model);
                 self.schedule(schedule);
-                self.push(u64::from(*put));
-                self.decimal(*strike);
+                self.terms(terms);
                 self.size(*paths);
                 self.list(draws);
                 self.size(*observations);
@@ -394,6 +405,19 @@ impl Reader<'_> {
         Ok(schedule)
     }
 
+    fn terms(&mut self, call: u64) -> Result<Terms, String> {
+        Ok(match call {
+            4 | 5 => Terms::Vanilla {
+                put: self.bool()?,
+                strike: self.decimal()?,
+            },
+            _ => Terms::DownAndOut {
+                strike: self.decimal()?,
+                barrier: self.decimal()?,
+            },
+        })
+    }
+
     fn case(&mut self) -> Result<Case, String> {
         let call = self.word()?;
         Ok(match call {
@@ -405,12 +429,11 @@ impl Reader<'_> {
                 draws: self.list()?,
                 tables: [self.size()?, self.size()?, self.size()?, self.size()?],
             },
-            4 | 5 => Case::Vanilla {
-                mirrored: call == 5,
+            4 | 5 | 9 | 10 => Case::Vanilla {
+                mirrored: call == 5 || call == 10,
                 model: self.model()?,
                 schedule: self.schedule()?,
-                put: self.bool()?,
-                strike: self.decimal()?,
+                terms: self.terms(call)?,
                 paths: self.size()?,
                 draws: self.list()?,
                 observations: self.size()?,

@@ -1,7 +1,7 @@
 //! The checked figures (docs/SPECIFICATION.md, section 19), on the oracle itself.
 
 use oracle::calls;
-use oracle::cases::lent;
+use oracle::cases::{Terms, lent};
 use oracle::edge::{self, Decimal, Estimate, Factors, Schedule, Segment, VixPayoff};
 use oracle::generator::decimal;
 use oracle::questions::{excluded_norm, squarings};
@@ -70,12 +70,44 @@ fn vanilla(paths: usize, draws: &[f64], observations: &mut [f64]) -> Estimate {
         &DISCOUNT,
         &model(),
         &schedule(&[(quarter(), 1)]),
-        false,
-        whole(100),
+        &Terms::Vanilla {
+            put: false,
+            strike: whole(100),
+        },
         paths,
         draws,
         observations,
     )
+}
+
+/// A put at 200 with the barrier, if there is one; two paths.
+fn put_until(barrier: Option<u128>, mirrored: bool, draws: &[f64]) -> (Estimate, Vec<f64>) {
+    let strike = whole(200);
+    let terms = match barrier {
+        None => Terms::Vanilla { put: true, strike },
+        Some(barrier) => Terms::DownAndOut {
+            strike,
+            barrier: whole(barrier),
+        },
+    };
+    let steps = if mirrored {
+        draws.len()
+    } else {
+        draws.len() / 2
+    };
+    let mut observations = lent(1, 2);
+    let answer = calls::vanilla(
+        mirrored,
+        &WEIGHT,
+        &DISCOUNT,
+        &model(),
+        &schedule(&[(quarter(), steps as u32)]),
+        &terms,
+        2,
+        draws,
+        &mut observations,
+    );
+    (answer, observations)
 }
 
 #[test]
@@ -281,8 +313,10 @@ fn mirrored_paths_take_negated_draws() {
             &DISCOUNT,
             &model(),
             &schedule(&[(quarter(), 1)]),
-            true,
-            whole(100),
+            &Terms::Vanilla {
+                put: true,
+                strike: whole(100),
+            },
             4,
             draws,
             &mut observations,
@@ -293,6 +327,99 @@ fn mirrored_paths_take_negated_draws() {
     assert_eq!(mirrored.0.number, 0);
     assert_eq!(mirrored, price(false, &[0.5, -0.5, 0.25, -0.25]));
     assert_eq!(price(true, &[0.5]).0.number, 20);
+}
+
+#[test]
+fn a_barrier_is_touched_at_or_below_it() {
+    // One path at 150 and one at 0, from 100.
+    let draws = [0.5, -1.0];
+    for (barrier, paid) in [(50, 25.0), (99, 25.0), (100, 0.0), (150, 0.0)] {
+        let (answer, observations) = put_until(Some(barrier), false, &draws);
+        let expected = Estimate {
+            number: 0,
+            place: [0; 4],
+            price: paid,
+            price_error: paid,
+            spot_mean: 75.0,
+            spot_error: 75.0,
+            paths: 2,
+            non_positive: 1,
+            steps: 2,
+        };
+        assert_eq!(answer, expected, "barrier {barrier}");
+        assert_eq!(observations, [150.0, 0.0]);
+    }
+    let (refused, observations) = put_until(Some(0), false, &draws);
+    assert_eq!(
+        refused,
+        Estimate {
+            number: 27,
+            ..Default::default()
+        }
+    );
+    assert_eq!(observations, lent(1, 2));
+}
+
+#[test]
+fn a_barrier_is_touched_on_the_way() {
+    // Down to 50, then up to 100.389.., in both paths.
+    let draws = [-0.5, 1.0, -0.5, 1.0];
+    let (vanilla, spots) = put_until(None, false, &draws);
+    assert!(spots.iter().all(|spot| (100.389..100.390).contains(spot)));
+    assert_eq!(vanilla.price, 200.0 - spots[0]);
+    assert_eq!(put_until(Some(49), false, &draws), (vanilla, spots));
+    for barrier in [50, 60] {
+        let (answer, _) = put_until(Some(barrier), false, &draws);
+        assert_eq!((answer.number, answer.steps), (0, 4));
+        assert_eq!((answer.price, answer.price_error), (0.0, 0.0));
+        assert_eq!(answer.spot_mean, vanilla.spot_mean);
+    }
+}
+
+#[test]
+fn each_path_of_a_mirrored_pair_has_its_own_lowest_spot() {
+    // To 50 and back up in the first path, to 150 and down in the second, or the other way round.
+    for sign in [1.0, -1.0] {
+        let draws = [-0.5 * sign, 0.5 * sign];
+        let negated = draws.map(|draw| -draw);
+        let (answer, spots) = put_until(Some(50), true, &draws);
+        assert_eq!(
+            (answer, spots.clone()),
+            put_until(Some(50), false, &[draws, negated].concat())
+        );
+        let risen = if sign > 0.0 { spots[1] } else { spots[0] };
+        assert_eq!(answer.price, (200.0 - risen) / 2.0);
+    }
+}
+
+#[test]
+fn a_barrier_is_compared_as_converted() {
+    // More than 100, or less, by less than a double shows: it touches 100. The next double below
+    // 100 does not.
+    let below = 100.0_f64.next_down();
+    for (barrier, price) in [
+        (decimal(false, 100_000_000_000_000_000_000_000_001, 24), 0.0),
+        (decimal(false, 99_999_999_999_999_999_999_999_999, 24), 0.0),
+        (decimal(false, 99_999_999_999_999_985_789, 18), 50.0),
+    ] {
+        assert!(price == 0.0 || calls::convert(barrier).value == below);
+        let mut observations = lent(1, 2);
+        let answer = calls::vanilla(
+            false,
+            &WEIGHT,
+            &DISCOUNT,
+            &model(),
+            &schedule(&[(quarter(), 1)]),
+            &Terms::DownAndOut {
+                strike: whole(200),
+                barrier,
+            },
+            2,
+            &[0.5, 0.5],
+            &mut observations,
+        );
+        assert_eq!((answer.number, answer.price), (0, price));
+    }
 }
 
 #[test]

@@ -167,7 +167,7 @@ fn kinds(case: &Case, outcome: &Outcome) -> BTreeSet<String> {
 
 /// The kinds that must occur in a call.
 fn wanted(call: usize) -> Vec<String> {
-    let mirrored = call == 4;
+    let mirrored = call == 4 || call == 9;
     let mut wanted: Vec<String> = [
         "a draw not finite",
         "a huge draw",
@@ -200,12 +200,12 @@ fn wanted(call: usize) -> Vec<String> {
 
 #[test]
 fn every_kind_of_batch_occurs() {
-    for call in [3, 4, 6] {
+    for call in [3, 4, 6, 8, 9] {
         let mut counts: BTreeMap<String, u64> = BTreeMap::new();
         for index in 0..CASES {
             let case = generator::case(1, call, index, generator::WIDE);
             let outcome = case.expected();
-            if outcome.number == 0 || outcome.number >= 22 {
+            if matches!(outcome.number, 0 | 22..=25) {
                 for kind in kinds(&case, &outcome) {
                     *counts.entry(kind).or_default() += 1;
                 }

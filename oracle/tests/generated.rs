@@ -1,12 +1,13 @@
 //! The generated cases: every number that a call can give occurs, and the record of a case is the
-//! case.
+//! case. The recorded list is what the oracle still gives.
 
 use oracle::cases::CALLS;
 use oracle::{generator, records};
 use std::collections::BTreeSet;
+use std::fs;
 
 /// The numbers that a call can give, in the order of `CALLS`.
-const NUMBERS: [&[u32]; 8] = [
+const NUMBERS: [&[u32]; 10] = [
     &[0, 1],
     &[0],
     &[0, 1, 2, 3, 4, 5, 6, 7, 8, 9, 10, 11, 12, 13, 14, 20, 21, 22],
@@ -22,6 +23,12 @@ const NUMBERS: [&[u32]; 8] = [
         25,
     ],
     &[0, 16, 17, 26],
+    &[
+        0, 1, 2, 3, 4, 5, 6, 7, 8, 9, 10, 11, 12, 13, 14, 18, 19, 20, 21, 22, 25, 27,
+    ],
+    &[
+        0, 1, 2, 3, 4, 5, 6, 7, 8, 9, 10, 11, 12, 13, 14, 18, 19, 20, 21, 22, 25, 27,
+    ],
 ];
 
 #[test]
@@ -64,4 +71,19 @@ fn a_record_is_its_case() {
         assert_eq!(outcome.workspace_free, again.workspace_free);
     }
     assert!(records::read(&words[..words.len() - 1]).is_err());
+}
+
+#[test]
+fn the_recorded_list_stays() {
+    let file = concat!(env!("CARGO_MANIFEST_DIR"), "/../crates/replay/stdin");
+    let bytes = fs::read(file).expect("the recorded list");
+    let words: Vec<u64> = bytes
+        .chunks_exact(8)
+        .map(|word| u64::from_le_bytes(word.try_into().expect("eight bytes")))
+        .collect();
+    let recorded = records::read(&words).expect("a whole file");
+    assert_eq!(words, records::write(&recorded));
+    for (i, (case, outcome)) in recorded.iter().enumerate() {
+        assert_eq!(case.expected().difference(outcome), None, "case {}", i + 1);
+    }
 }

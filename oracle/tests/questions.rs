@@ -1,6 +1,6 @@
 //! The order of the questions: of any two that get a No, the earlier one gives the number.
 
-use oracle::cases::{Case, Model};
+use oracle::cases::{Case, Model, Terms};
 use oracle::edge::{Decimal, Factors, Schedule, VixPayoff};
 use oracle::figures::{model, quarter, schedule, whole};
 use oracle::generator::decimal;
@@ -14,6 +14,7 @@ struct Draft {
     window: Decimal,
     given: Factors,
     strike: Decimal,
+    barrier: Decimal,
     paths: usize,
     draws: Vec<f64>,
     tables: [usize; 4],
@@ -39,6 +40,7 @@ fn draft() -> Draft {
         },
         model,
         strike: whole(100),
+        barrier: whole(60),
         paths: 4,
         draws: vec![0.125; 4 * STEPS],
         tables: [STEPS + 1, STEPS + 1, STEPS + 1, 2 * (STEPS + 1)],
@@ -120,6 +122,12 @@ const STRIKE: &[No] = &[
     (1, NONE, |d| d.strike.scale = OVER),
 ];
 
+const BARRIER: &[No] = &[
+    (27, NONE, |d| d.barrier = decimal(true, 1, OVER)),
+    (27, NONE, |d| d.barrier = decimal(false, 0, OVER)),
+    (1, NONE, |d| d.barrier.scale = OVER),
+];
+
 const PATHS: &[No] = &[
     (19, NONE, |d| d.paths = 1),
     (19, NONE, |d| d.paths = 65_537),
@@ -152,7 +160,7 @@ fn check(groups: &[&[No]], valid: &Draft, case: fn(&Draft) -> Case) {
                 later.0
             );
             let steps = outcome.counts.last();
-            assert!(*number >= 22 || steps.is_none_or(|steps| *steps == 0));
+            assert!(matches!(number, 22..=25) || steps.is_none_or(|steps| *steps == 0));
         }
     }
 }
@@ -179,17 +187,32 @@ fn trace() {
     });
 }
 
-fn vanilla_case(d: &Draft) -> Case {
+fn batch_case(d: &Draft, terms: Terms) -> Case {
     Case::Vanilla {
         mirrored: d.mirrored,
         model: d.model.clone(),
         schedule: d.schedule,
-        put: false,
-        strike: d.strike,
+        terms,
         paths: d.paths,
         draws: d.draws.clone(),
         observations: d.observations,
     }
+}
+
+fn vanilla_case(d: &Draft) -> Case {
+    let terms = Terms::Vanilla {
+        put: false,
+        strike: d.strike,
+    };
+    batch_case(d, terms)
+}
+
+fn down_and_out_case(d: &Draft) -> Case {
+    let terms = Terms::DownAndOut {
+        strike: d.strike,
+        barrier: d.barrier,
+    };
+    batch_case(d, terms)
 }
 
 #[test]
@@ -199,18 +222,38 @@ fn vanilla() {
 }
 
 #[test]
-fn mirrored() {
+fn down_and_out() {
+    let groups = [KERNEL, PARAMETERS, SCHEDULE, STRIKE, BARRIER, PATHS, STEP];
+    check(&groups, &draft(), down_and_out_case);
+}
+
+fn mirrored_draft() -> Draft {
     let mut valid = draft();
     valid.mirrored = true;
     valid.draws.truncate(2 * STEPS);
-    let odd: &[No] = &[(19, NONE, |d| d.paths = 5)];
-    let stop: &[No] = &[(22, [3, 1, 1, 11], |d| {
-        if let Some(draw) = d.draws.get_mut(STEPS) {
-            *draw = f64::INFINITY;
-        }
-    })];
-    let groups = [KERNEL, PARAMETERS, SCHEDULE, STRIKE, odd, PATHS, stop];
-    check(&groups, &valid, vanilla_case);
+    valid
+}
+
+const ODD: &[No] = &[(19, NONE, |d| d.paths = 5)];
+
+const MIRRORED_STEP: &[No] = &[(22, [3, 1, 1, 11], |d| {
+    if let Some(draw) = d.draws.get_mut(STEPS) {
+        *draw = f64::INFINITY;
+    }
+})];
+
+#[test]
+fn mirrored() {
+    let paths = [ODD, PATHS, MIRRORED_STEP].concat();
+    let groups = [KERNEL, PARAMETERS, SCHEDULE, STRIKE, &paths];
+    check(&groups, &mirrored_draft(), vanilla_case);
+}
+
+#[test]
+fn mirrored_down_and_out() {
+    let paths = [ODD, PATHS, MIRRORED_STEP].concat();
+    let groups = [KERNEL, PARAMETERS, SCHEDULE, STRIKE, BARRIER, &paths];
+    check(&groups, &mirrored_draft(), down_and_out_case);
 }
 
 #[test]

@@ -125,7 +125,7 @@ structs! {
         steps: u64,
     }
 
-    /// Of `qrh_vanilla` and `qrh_mirrored`.
+    /// Of the batches on the spot: `qrh_vanilla`, `qrh_mirrored` and the two down-and-out calls.
     #[derive(Debug, Default)]
     "qrh_estimate" Estimate {
         number: u32,
@@ -261,6 +261,40 @@ calls! {
         schedule: Schedule,
         put: bool,
         strike: Decimal,
+        paths: usize,
+        draws: *const f64,
+        draws_length: usize,
+        observations: *mut f64,
+        observations_length: usize,
+    ) -> Estimate;
+
+    /// Prices a batch of a down-and-out put.
+    fn qrh_down_and_out(
+        weights: *const f64,
+        weights_length: usize,
+        discounts: *const f64,
+        discounts_length: usize,
+        model: Model,
+        schedule: Schedule,
+        strike: Decimal,
+        barrier: Decimal,
+        paths: usize,
+        draws: *const f64,
+        draws_length: usize,
+        observations: *mut f64,
+        observations_length: usize,
+    ) -> Estimate;
+
+    /// Prices a mirrored batch of a down-and-out put.
+    fn qrh_mirrored_down_and_out(
+        weights: *const f64,
+        weights_length: usize,
+        discounts: *const f64,
+        discounts_length: usize,
+        model: Model,
+        schedule: Schedule,
+        strike: Decimal,
+        barrier: Decimal,
         paths: usize,
         draws: *const f64,
         draws_length: usize,

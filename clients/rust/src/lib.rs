@@ -201,6 +201,16 @@ impl Vanilla {
     }
 }
 
+/// A put on the spot that vanishes at a barrier: it pays nothing on a path whose lowest spot, the
+/// start included, is at or below the barrier.
+#[derive(Debug, Clone, Copy, PartialEq, Eq, Hash)]
+pub struct DownAndOut {
+    /// At least zero.
+    pub strike: Decimal,
+    /// Above zero. At or above the spot it makes the put worth nothing.
+    pub barrier: Decimal,
+}
+
 /// What is paid on the VIX.
 #[derive(Debug, Clone, Copy, PartialEq, Eq, Hash)]
 pub enum VixPayoff {
@@ -284,7 +294,7 @@ impl Path {
     }
 }
 
-/// The answer of a vanilla or a mirrored batch.
+/// The answer of a batch on the spot.
 #[derive(Debug, Clone, Copy, PartialEq)]
 pub struct Estimate {
     /// The mean payoff.
@@ -301,6 +311,21 @@ pub struct Estimate {
     pub non_positive: u64,
     /// The steps taken.
     pub steps: u64,
+}
+
+impl Estimate {
+    fn of(answer: qrh_sys::Estimate) -> Result<Self, Refusal> {
+        answered(answer.number, answer.place, answer.steps)?;
+        Ok(Self {
+            price: answer.price,
+            price_error: answer.price_error,
+            spot_mean: answer.spot_mean,
+            spot_error: answer.spot_error,
+            paths: answer.paths,
+            non_positive: answer.non_positive,
+            steps: answer.steps,
+        })
+    }
 }
 
 /// The VIX at given factors.
@@ -436,16 +461,7 @@ fn batch(
             observations.len(),
         )
     };
-    answered(answer.number, answer.place, answer.steps)?;
-    Ok(Estimate {
-        price: answer.price,
-        price_error: answer.price_error,
-        spot_mean: answer.spot_mean,
-        spot_error: answer.spot_error,
-        paths: answer.paths,
-        non_positive: answer.non_positive,
-        steps: answer.steps,
-    })
+    Estimate::of(answer)
 }
 
 /// Prices a call or a put on the spot, from `paths` × N draws, path by path. The spot of each path
@@ -481,6 +497,102 @@ pub fn mirrored(
     observations: &mut [f64],
 ) -> Result<Estimate, Refusal> {
     batch(true, model, schedule, option, paths, draws, observations)
+}
+
+/// What [`down_and_out`] and [`mirrored_down_and_out`] share.
+fn barrier_batch(
+    mirrored: bool,
+    model: &Model,
+    schedule: &Schedule,
+    option: &DownAndOut,
+    paths: usize,
+    draws: &[f64],
+    observations: &mut [f64],
+) -> Result<Estimate, Refusal> {
+    let call = if mirrored {
+        qrh_sys::qrh_mirrored_down_and_out
+    } else {
+        qrh_sys::qrh_down_and_out
+    };
+    // SAFETY: each pointer is followed by the length of its slice, and no slice that is written
+    // overlaps another.
+    let answer = unsafe {
+        call(
+            model.weights.as_ptr(),
+            model.weights.len(),
+            model.discounts.as_ptr(),
+            model.discounts.len(),
+            model.edge(),
+            schedule.edge(),
+            option.strike.edge(),
+            option.barrier.edge(),
+            paths,
+            draws.as_ptr(),
+            draws.len(),
+            observations.as_mut_ptr(),
+            observations.len(),
+        )
+    };
+    Estimate::of(answer)
+}
+
+/// Prices a down-and-out put on the spot, from `paths` × N draws, path by path. The observations
+/// are those of [`vanilla`].
+///
+/// # Errors
+///
+/// 2 to 10, 1, 11 to 14, 18, 27, 19 to 21, 22 and 25. The observations are written as in
+/// [`vanilla`].
+///
+/// # Example
+///
+/// Two paths of one step, with the spots 100, 150 and 100, 0: the second meets the barrier.
+///
+/// ```
+/// use qrh::{Decimal, DownAndOut, Model, Schedule};
+///
+/// # let model = Model {
+/// #     weights: vec![1.0],
+/// #     discounts: vec![4.0],
+/// #     a: Decimal::ONE,
+/// #     b: Decimal::ZERO,
+/// #     c: Decimal::from(4),
+/// #     lambda: Decimal::ONE,
+/// #     eta: Decimal::ONE,
+/// #     spot: Decimal::from(100),
+/// #     factors: vec![Decimal::ZERO],
+/// # };
+/// let schedule = Schedule::from([("0.25".parse()?, 1)]);
+/// let put = DownAndOut { strike: Decimal::from(200), barrier: Decimal::from(50) };
+/// let estimate = qrh::down_and_out(&model, &schedule, &put, 2, &[0.5, -1.0], &mut [0.0; 2])?;
+/// assert_eq!((estimate.price, estimate.price_error), (25.0, 25.0));
+/// # Ok::<(), Box<dyn std::error::Error>>(())
+/// ```
+pub fn down_and_out(
+    model: &Model,
+    schedule: &Schedule,
+    option: &DownAndOut,
+    paths: usize,
+    draws: &[f64],
+    observations: &mut [f64],
+) -> Result<Estimate, Refusal> {
+    barrier_batch(false, model, schedule, option, paths, draws, observations)
+}
+
+/// Prices as [`down_and_out`] does over the paths of [`mirrored`], each with its own lowest spot.
+///
+/// # Errors
+///
+/// As [`down_and_out`].
+pub fn mirrored_down_and_out(
+    model: &Model,
+    schedule: &Schedule,
+    option: &DownAndOut,
+    paths: usize,
+    draws: &[f64],
+    observations: &mut [f64],
+) -> Result<Estimate, Refusal> {
+    barrier_batch(true, model, schedule, option, paths, draws, observations)
 }
 
 /// The doubles of workspace that [`vix`] and [`vix_batch`] need for n factors: 5 × dimension²,

@@ -114,6 +114,8 @@ pub enum Refusal {
     Estimate { which: Reported, steps: u64 },
     /// 26: the dimension is not 1 to 67, or a matrix is not dimension² doubles long.
     Matrix,
+    /// 27: the barrier is not above zero.
+    Barrier,
     /// A number or a place that this crate does not know.
     Unknown { number: u32, place: [u64; 4] },
 }
@@ -182,6 +184,7 @@ impl Refusal {
                 Self::Estimate { which, steps }
             }
             26 => Self::Matrix,
+            27 => Self::Barrier,
             _ => unknown,
         }
     }
@@ -216,6 +219,7 @@ impl Refusal {
             Self::VixNotPositive { .. } => 24,
             Self::Estimate { .. } => 25,
             Self::Matrix => 26,
+            Self::Barrier => 27,
             Self::Unknown { number, .. } => *number,
         }
     }
@@ -322,6 +326,7 @@ fn sentence(refusal: &Refusal, f: &mut fmt::Formatter<'_>) -> fmt::Result {
         Refusal::Matrix => {
             "the dimension is not 1 to 67, or a matrix is not exactly dimension^2 doubles long"
         }
+        Refusal::Barrier => "the barrier is not above zero",
         Refusal::Unknown { .. } => {
             "the core refused the input for a reason that this client does not know"
         }

@@ -4,7 +4,8 @@ mod common;
 
 use common::{at_100, dec, model, quarter};
 use qrh::{
-    Decimal, Model, Path, Quantity, Refusal, Schedule, Vanilla, VixPayoff, workspace_length,
+    Decimal, DownAndOut, Model, Path, Quantity, Refusal, Schedule, Vanilla, VixPayoff,
+    workspace_length,
 };
 
 fn bits(text: &str) -> u64 {
@@ -118,6 +119,60 @@ fn mirrored_batch() {
     );
 }
 
+/// A put at 200 that vanishes at this barrier.
+fn at_200(barrier: &str) -> DownAndOut {
+    DownAndOut {
+        strike: Decimal::from(200),
+        barrier: dec(barrier),
+    }
+}
+
+#[test]
+fn down_and_out_batch() {
+    // The spots are 100, 150 and 100, 0: the start counts, and so does the barrier itself.
+    for (barrier, price, error) in [
+        ("50", 25.0, 25.0),
+        ("99", 25.0, 25.0),
+        ("99.9999999999999999999", 0.0, 0.0), // as converted it is 100
+        ("100", 0.0, 0.0),
+        ("1000", 0.0, 0.0),
+    ] {
+        let mut observations = [7.0; 2];
+        let answer = qrh::down_and_out(
+            &model(),
+            &quarter(),
+            &at_200(barrier),
+            2,
+            &[0.5, -1.0],
+            &mut observations,
+        )
+        .expect("an answer");
+        assert_eq!((answer.price, answer.price_error), (price, error));
+        assert_eq!((answer.spot_mean, answer.spot_error), (75.0, 75.0));
+        assert_eq!((answer.paths, answer.non_positive, answer.steps), (2, 1, 2));
+        assert_eq!(observations, [150.0, 0.0]);
+    }
+}
+
+#[test]
+fn a_spot_that_fell_and_rose_again() {
+    // Each path has the spot 50 after its first step, and ends above 75.
+    let draws = [-0.5, 1.0, -0.5, 0.5].repeat(3);
+    let schedule = Schedule::from([(dec("0.25"), 2)]);
+    for paths in [2, 4, 6] {
+        let (draws, mut seen) = (&draws[..2 * paths], vec![0.0; paths]);
+        let mut price =
+            |option| qrh::down_and_out(&model(), &schedule, &option, paths, draws, &mut seen);
+        let vanished = price(at_200("50")).expect("an answer");
+        assert_eq!((vanished.price, vanished.price_error), (0.0, 0.0));
+        let alive = price(at_200("49"));
+        assert!(seen.iter().all(|spot| *spot > 75.0));
+        let put = Vanilla::put(Decimal::from(200));
+        let plain = qrh::vanilla(&model(), &schedule, &put, paths, draws, &mut seen);
+        assert_eq!(alive, plain);
+    }
+}
+
 #[test]
 fn matrix_exponential() {
     let (mut output, mut workspace) = ([0.0; 4], [0.0; 20]);
@@ -204,7 +259,8 @@ fn uneven() -> (Model, Schedule) {
 /// Three paths that rise and one that falls, of two steps each.
 const FALL: [f64; 8] = [0.5, 0.0, 0.5, 0.0, 0.5, 0.0, -1.0, 0.0];
 
-// Names do not cross the edge, so in the next three answers no two values or tables are equal.
+// Names do not cross the edge, so in the next four tests no two values or tables of an answer are
+// equal.
 
 #[test]
 fn each_table_of_a_trace_is_its_own() {
@@ -231,6 +287,34 @@ fn each_value_of_a_batch_is_its_own() {
     assert_eq!(
         (answer.price, answer.price_error),
         (20.0, 11.547_005_383_792_516)
+    );
+    assert_eq!(
+        (answer.spot_mean, answer.spot_error),
+        (100.0, 28.867_513_459_481_287)
+    );
+    assert_eq!((answer.paths, answer.non_positive, answer.steps), (4, 0, 8));
+    assert_eq!(spots, [150.0, 50.0, 150.0, 50.0]);
+}
+
+#[test]
+fn each_value_of_a_barrier_batch_is_its_own() {
+    let (model, schedule) = uneven();
+    let put = DownAndOut {
+        strike: Decimal::from(170),
+        barrier: Decimal::from(60),
+    };
+    let mut spots = [0.0; 4];
+    let answer = qrh::down_and_out(&model, &schedule, &put, 4, &FALL, &mut spots);
+    let answer = answer.expect("an answer");
+    assert_eq!((answer.price, answer.price_error), (15.0, 5.0));
+    assert_eq!((answer.spot_mean, answer.spot_error), (112.5, 37.5));
+    assert_eq!((answer.paths, answer.non_positive, answer.steps), (4, 1, 8));
+    assert_eq!(spots, [150.0, 150.0, 150.0, 0.0]);
+    let answer = qrh::mirrored_down_and_out(&model, &schedule, &put, 4, &FALL[..4], &mut spots);
+    let answer = answer.expect("an answer");
+    assert_eq!(
+        (answer.price, answer.price_error),
+        (10.0, 5.773_502_691_896_258)
     );
     assert_eq!(
         (answer.spot_mean, answer.spot_error),

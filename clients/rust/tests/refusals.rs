@@ -4,8 +4,8 @@ mod common;
 
 use common::{at_100, dec, model, quarter};
 use qrh::{
-    Decimal, KernelTable, Model, Path, Quantity, Refusal, Reported, Schedule, Tables, Vanilla,
-    VixPayoff, workspace_length,
+    Decimal, DownAndOut, KernelTable, Model, Path, Quantity, Refusal, Reported, Schedule, Tables,
+    Vanilla, VixPayoff, workspace_length,
 };
 
 /// A trace of one step from the model as changed.
@@ -128,6 +128,33 @@ fn batches() {
     assert_eq!(price("100", 2, 2, 3), Refusal::TableLength);
     let odd = qrh::mirrored(&model(), &quarter(), &at_100(), 3, &[0.5], &mut [0.0; 3]);
     assert_eq!(odd, Err(Refusal::PathCount));
+}
+
+#[test]
+fn barriers() {
+    let fine = "0.00000000000000000000000000001";
+    for (strike, barrier, paths, expected) in [
+        ("100", "0", 2, Refusal::Barrier),
+        ("100", "-1", 2, Refusal::Barrier),
+        ("100", fine, 2, Refusal::Scale),
+        // In the order of the questions: 18 and 1 of the strike, 27 and 1 of the barrier, 19.
+        ("-1", "0", 1, Refusal::Strike),
+        (fine, "0", 1, Refusal::Scale),
+        ("100", "0", 1, Refusal::Barrier),
+        ("100", fine, 1, Refusal::Scale),
+        ("100", "50", 1, Refusal::PathCount),
+    ] {
+        let put = DownAndOut {
+            strike: dec(strike),
+            barrier: dec(barrier),
+        };
+        let mut seen = [7.0; 2];
+        for call in [qrh::down_and_out, qrh::mirrored_down_and_out] {
+            let answer = call(&model(), &quarter(), &put, paths, &[0.5, 0.5], &mut seen);
+            assert_eq!(answer, Err(expected), "strike {strike}, barrier {barrier}");
+        }
+        assert_eq!(seen, [7.0; 2]);
+    }
 }
 
 #[test]

@@ -2,7 +2,7 @@
 -- that is read off them. Assumes nothing.
 use mathlib.Core.Path.{_≡_, refl, sym, ap, _∙_, subst}
 use mathlib.Core.Bool.{true, false}
-use mathlib.Core.List.{List}
+use mathlib.Core.List.{List, [], _∷_}
 use Prim.Native.Nat.{ℕ, _*_, _^_, _≤_, _<_}
 use native.Mathlib.Nat.{le-trans, le-of-eq, mul-one, one-mul}
 use borrow.Author.Tests.{not-true}
@@ -15,11 +15,11 @@ use Rattle.numeric.specs.Double.{magnitude}
 use Rattle.numeric.proofs.Order.{ordered→le}
 use Rattle.numeric.proofs.Tables.{getD-tabulate}
 use Rattle.decimal.specs.declared.Decimal.{Decimal}
-use Rattle.decimal.specs.Decimal.{coefficient, isNegative, value}
-use Rattle.decimal.proofs.Value.{converts, value-fits}
+use Rattle.decimal.specs.Decimal.{coefficient, isNegative, isPositive, scaleFits, value}
+use Rattle.decimal.proofs.Value.{converts, positive-value, value-fits}
 use Rattle.refusal.specs.declared.Outcome.the-variants.{Passed}
-use Rattle.refusal.specs.Questions.{firstNo}
-use Rattle.refusal.proofs.Laws.{passed-first, passed-head}
+use Rattle.refusal.specs.Questions.{firstNo, each}
+use Rattle.refusal.proofs.Laws.{passed-first, passed-then, passed-head, passed-tail}
 use Rattle.model.specs.declared.Kernel.{Kernel}
 use Rattle.model.specs.declared.Model.{Model}
 use Rattle.admission.specs.declared.ParamsAdmission.{ParamsAdmission}
@@ -28,8 +28,9 @@ use Rattle.model.specs.declared.State.{State}
 use Rattle.model.specs.declared.TimeGrid.{TimeGrid}
 use Rattle.model.specs.declared.Simulation.{Simulation}
 use Rattle.model.specs.Parameters.{zeroDecimal, paramsOf, factorsOf, startOf}
-use Rattle.admission.specs.Questions.{rangeQuestions, scaleQuestions, paramsQuestions}
+use Rattle.admission.specs.Questions.{factorQuestions, rangeQuestions, scaleQuestions, paramsQuestions}
 use Rattle.model.specs.Step.{read}
+use Rattle.model.specs.Questions.{scaleQuestion}
 use Rattle.model.specs.Inner.InUse.{kernelInUse, stateInUse, simulationInUse}
 use Rattle.model.specs.Inner.Admitted.{Converted, ParamsReady, Admitted}
 use Rattle.admission.specs.Inner.Admission.{KernelReady, ParamsPrepared}
@@ -71,6 +72,20 @@ module _ (n : ℕ) (p : Model) where
   unfolding paramsQuestions rangeQuestions
   a-passed h = not-true (isNegative (p .a)) (passed-head _ _ (passed-first (rangeQuestions n p) (scaleQuestions n p) h))
 
+  -- the spot is positive, and its scale, asked last, fits
+  spot-passed : firstNo (paramsQuestions n p) ≡ Passed → isPositive (p .spot) ≡ true
+  unfolding paramsQuestions rangeQuestions
+  spot-passed h =
+      let ranges = passed-first (rangeQuestions n p) (scaleQuestions n p) h in
+      passed-head _ _ (passed-tail _ _ (passed-tail _ _ (passed-tail _ _ (passed-tail _ _ ranges))))
+
+  spot-fits : firstNo (paramsQuestions n p) ≡ Passed → scaleFits (p .spot) ≡ true
+  unfolding paramsQuestions scaleQuestions
+  spot-fits h =
+      let scales = passed-then (rangeQuestions n p) (scaleQuestions n p) h in
+      let factors = passed-tail _ _ (passed-tail _ _ (passed-tail _ _ (passed-tail _ _ (passed-tail _ _ scales)))) in
+      passed-head (scaleQuestion (p .spot)) [] (passed-then (each (factorQuestions (p .factors)) n) (scaleQuestion (p .spot) ∷ []) factors)
+
   module _ (few : n ≤ 10) (held : Coefficients p) where
     factor-converted : (i : ℕ) → i < n → Converted (getD (factorsOf n (p .factors)) i nan)
     unfolding factorsOf
@@ -88,6 +103,7 @@ params-ready k p few held passed =
       lambda = value-converted (p .lambda) (held .lambda);
       eta = value-converted (p .eta) (held .eta);
       spot = value-converted (p .spot) (held .spot);
+      spot-above = positive-value (p .spot) (held .spot) (spot-passed (k .n) p passed) (spot-fits (k .n) p passed);
       factor = factor-converted (k .n) p few held;
     }
 
@@ -104,12 +120,12 @@ params-prepared k p r few held asked params start =
     }
 
 -- ---- the model
--- a start is read off its own factors
-starts-read : (k : Kernel) (p : Model) (params : Params) (s : State) → params ≡ paramsOf p → s ≡ startOf k p → s ≡ read k params (s .spot) (s .factors)
+-- a start is read off its own spot and factors
+starts-read : (k : Kernel) (p : Model) (params : Params) (s : State) → params ≡ paramsOf p → s ≡ startOf k p → s ≡ read k params (s .spot) (s .spot) (s .factors)
 unfolding startOf read
 starts-read k p params s r e =
-    subst (λ (x : Params). s ≡ read k x (s .spot) (s .factors)) (sym r)
-    (subst (λ (x : State). x ≡ read k (paramsOf p) (x .spot) (x .factors)) (sym e) refl)
+    subst (λ (x : Params). s ≡ read k x (s .spot) (s .spot) (s .factors)) (sym r)
+    (subst (λ (x : State). x ≡ read k (paramsOf p) (x .spot) (x .spot) (x .factors)) (sym e) refl)
 
 module _
     (weights discounts : List Float)

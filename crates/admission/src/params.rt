@@ -103,6 +103,6 @@ pub fn try_new(k: Kernel, p: Model) -> ParamsAdmission
     ParamsAdmission {
         outcome: refusal::or_later(first, then),
         params: params,
-        start: scheme::read(k, params, spot, factors),
+        start: scheme::read(k, params, spot, spot, factors),
     }
 }

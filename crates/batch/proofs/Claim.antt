@@ -4,7 +4,7 @@ use mathlib.Core.Path.{_≡_, refl, sym, _∙_, ap, subst}
 use mathlib.Core.Bool.{true}
 use mathlib.Core.Option.{Option, none, some}
 use mathlib.Core.List.{List}
-use Prim.Native.Nat.{ℕ, zero, suc, pred, _+_, _*_, _<_, _≤_}
+use Prim.Native.Nat.{ℕ, zero, suc, _+_, _*_, _<_, _≤_}
 use native.Mathlib.Omega.{arith}
 use lib.Arith.{digits-div, digits-mod}
 use lib.Ieee.{Float, nan}
@@ -21,12 +21,13 @@ use Rattle.model.proofs.First.{none-some, none-at, none-all, first-at}
 use Rattle.model.proofs.Stops.{StopsAt, stop-finite, finite-stop, stop-first}
 use Rattle.model.proofs.Containment.{laid-in-use, contains-yes, segment-of, segment-at, segment-only}
 use Rattle.model.proofs.FiniteStates.{walk-sound}
+use Rattle.model.proofs.Lowest.{walk-lowest}
 use Rattle.refusal.specs.declared.Refusal.{Refusal}
 use Rattle.refusal.specs.Questions.{Question, firstNo, onceAsked}
 use Rattle.model.specs.Inner.InUse.{simulationInUse}
 use Rattle.walks.specs.declared.Batch.{Batch as Handed}
 use Rattle.walks.specs.Inner.Handed.{batchOf}
-use Rattle.walks.specs.Batch.{Batch, walkOf, nonPositivePaths, observation}
+use Rattle.walks.specs.Batch.{Batch, walkOf, observation}
 use Rattle.walks.proofs.Cells.{row-below}
 use Rattle.estimates.specs.declared.Payoff.{Payoff}
 use Rattle.estimates.proofs.Values.{SameUpTo}
@@ -38,7 +39,8 @@ use Rattle.batch.specs.Report.{reported, refusedAfter, reportWith, price
 use Rattle.batch.specs.Claim.{pricedAnswer, answerOf, OneTo, stateOf, FiniteAt, StepTaken, PlainWalks}
 use Rattle.batch.specs.Claim.{SomeStepFails, FiniteBefore, FirstFailure, reportOf, Reaches}
 use Rattle.batch.specs.Claim.{entry, Written, BatchClaim}
-use Rattle.paths.specs.Inner.Handed.{lastObservation, walkedOf, runAt, runAnswer, BatchRun}
+use Rattle.tally.specs.Inner.Rows.{lastObservation}
+use Rattle.paths.specs.Inner.Handed.{walkedOf, runAt, runAnswer, BatchRun}
 use Rattle.batch.specs.Inner.Handed.{reportedOf, pricedFrom, pricedAfter, BatchPriced}
 use Rattle.batch.proofs.Reporting.{reported-read, reported-other, reported-same, questions-same}
 use Rattle.paths.proofs.Stops.{runStopAt, entry-new, entry-run, entry-path}
@@ -200,6 +202,7 @@ module _
           starts = λ p. refl;
           steps = λ p k h l. step-of b laid p k l;
           sound = λ p k h l. walk-sound (walkOf b p) admitted k;
+          lowest = λ p k h l. walk-lowest (walkOf b p) admitted k;
         }
 
     abbrev Claimed : Priced → Type 0
@@ -243,6 +246,9 @@ module _
     abbrev walked : ℕ → Float
     walked p = b .observe (stateOf b p (b .simulation .grid .total))
 
+    abbrev lowest : ℕ → Float
+    lowest p = stateOf b p (b .simulation .grid .total) .lowest
+
     last-step : (p : ℕ) → seen p ≡ walked p
     unfolding observation
     last-step p = ap (λ (k : ℕ). b .observe (stateAfter (walkOf b p) k)) (laid .ends)
@@ -255,8 +261,8 @@ module _
     unfolding reportOf
     done e =
         let other : (answerOf b (pricedAt b payoff none) .number ≡ 22 → ⊥) =
-        reported-other (b .observed) payoff seen (b .paths) refused (λ x. Price (reportWith b x))
-        (λ r. answerOf b r .number ≡ 22 → ⊥) (λ r other. other) (λ x h. omega (arith, h)) in
+        reported-other (b .observed) payoff seen lowest (b .paths) refused
+        (λ x. Price (reportWith b x)) (λ r. answerOf b r .number ≡ 22 → ⊥) (λ r other. other) (λ x h. omega (arith, h)) in
         record {
           walks = walks;
           exactly = (
@@ -269,10 +275,10 @@ module _
           );
           names = λ h. absurd (other h);
           otherwise = λ none.
-              reported-read (b .observed) payoff seen (b .paths) refused (λ x. Price (reportWith b x))
-              (answerOf b)
-              ∙ reported-same (b .observed) payoff seen walked (b .paths) (λ p l h. last-step p)
-              _ (λ x. pricedAnswer (b .observed) (reportWith b x));
+              reported-read (b .observed) payoff seen lowest (b .paths) refused
+              (λ x. Price (reportWith b x)) (answerOf b)
+              ∙ reported-same (b .observed) payoff seen walked lowest (b .paths)
+              (λ p l h. last-step p) _ (λ x. pricedAnswer (b .observed) (reportWith b x));
           written = written b lent (laid .some) rows;
         }
 

@@ -31,8 +31,9 @@ abbrev by : {A : Type 0} → Outcome → ℕ → (Refusal → A) → A → A
 by asked which refused priced = onceAsked asked refused (unlessNotFinite which refused priced)
 
 -- the estimates
-abbrev made : Observed → Payoff → (ℕ → Float) → ℕ → Estimates
-made o payoff last n = estimatesFrom (tallyOf payoff (λ p. underlyingOf o (last p)) n)
+abbrev made : Observed → Payoff → (ℕ → Float) → (ℕ → Float) → ℕ → Estimates
+made o payoff last lowest n =
+    estimatesFrom (tallyOf payoff (λ p. underlyingOf o (last p)) lowest n)
 
 -- ---- a reading of what is made is made of the readings
 by-read :
@@ -62,19 +63,19 @@ by-other P Passed (suc which) refused priced other r p = r _ (λ e. omega (arith
 by-other P (Refused first) which refused priced other r p = r first (other first refl)
 
 module _
-    {A : Type 0} (o : Observed) (payoff : Payoff) (last : ℕ → Float) (n : ℕ) (refused : Refusal → A)
-    (priced : Estimates → A)
+    {A : Type 0} (o : Observed) (payoff : Payoff) (last lowest : ℕ → Float) (n : ℕ)
+    (refused : Refusal → A) (priced : Estimates → A)
   where
     abbrev asked : Outcome
     asked = firstNo (lastQuestions o last n)
 
     abbrev estimates : Estimates
-    estimates = made o payoff last n
+    estimates = made o payoff last lowest n
 
     pub reported-read :
         {B : Type 0} (f : A → B)
-        → f (reported o payoff last n refused priced)
-        ≡ reported o payoff last n (λ r. f (refused r)) (λ e. f (priced e))
+        → f (reported o payoff last lowest n refused priced)
+        ≡ reported o payoff last lowest n (λ r. f (refused r)) (λ e. f (priced e))
     unfolding reported
     reported-read f = by-read f asked (notFinite estimates) refused (priced estimates)
 
@@ -82,7 +83,7 @@ module _
         (P :
         A → Type 0) → ((r : Refusal) → Other r → P (refused r)) → ((e : Estimates)
         → P (priced e))
-        → P (reported o payoff last n refused priced)
+        → P (reported o payoff last lowest n refused priced)
     unfolding reported
     reported-other P r p =
         by-other P asked (notFinite estimates) refused (priced estimates)
@@ -107,16 +108,17 @@ questions-same VixSquared f g n same =
     each-same (squaredQuestions f) (squaredQuestions g) n (λ p l h. rw (same p l h))
 
 pub reported-same :
-    {A : Type 0} (o : Observed) (payoff : Payoff) (f g : ℕ → Float) (n : ℕ) → SameUpTo f g n
-    → (refused : Refusal → A) (priced : Estimates → A)
-    → reported o payoff f n refused priced ≡ reported o payoff g n refused priced
+    {A : Type 0} (o : Observed) (payoff : Payoff) (f g lowest : ℕ → Float) (n : ℕ)
+    → SameUpTo f g n → (refused : Refusal → A) (priced : Estimates → A)
+    → reported o payoff f lowest n refused priced ≡ reported o payoff g lowest n refused priced
 unfolding reported
-reported-same o payoff f g n same refused priced =
+reported-same o payoff f g lowest n same refused priced =
     let shown : (ℕ → Float) → ℕ → Float = λ h p. underlyingOf o (h p) in
-    ap (λ (q : List Question). by (firstNo q) (notFinite (made o payoff f n)) refused (priced (made o payoff f n)))
+    let of-f : Estimates = made o payoff f lowest n in
+    ap (λ (q : List Question). by (firstNo q) (notFinite of-f) refused (priced of-f))
     (questions-same o f g n same)
     ∙ ap (λ (t : Tally). by (firstNo (lastQuestions o g n)) (notFinite (estimatesFrom t)) refused (priced (estimatesFrom t)))
-    (tally-same payoff (shown f) (shown g) n (λ p l h. ap (underlyingOf o) (same p l h)))
+    (tally-same payoff (shown f) (shown g) lowest n (λ p l h. ap (underlyingOf o) (same p l h)))
 
 -- ---- the report of a tally
 module _

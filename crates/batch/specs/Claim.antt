@@ -18,7 +18,7 @@ use Rattle.model.specs.declared.Finiteness.the-variants.{Finite, NonFinite}
 use Rattle.model.specs.declared.State.{State}
 use Rattle.model.specs.Step.{step, finiteness}
 use Rattle.model.specs.TimeGrid.{lastStep, contains}
-use Rattle.model.specs.Walk.{stateAfter, Sound}
+use Rattle.model.specs.Walk.{stateAfter, LowestSpot, Sound}
 use Rattle.walks.specs.declared.Observed.{Observed}
 use Rattle.walks.specs.declared.Observed.the-variants.{Spot, VixSquared}
 use Rattle.walks.specs.Batch.{Batch, walkOf}
@@ -115,10 +115,14 @@ pub record PlainWalks (b : Batch) : Type 0 where
   pub steps :
       (p k : ℕ) → OneTo (b .paths) p → OneTo (b .simulation .grid .total) k → StepTaken b p k
   -- of every state, the start included and only the one that a path stops with left out: none goes
-  -- on from a factor that is not finite, or from a variance below c
+  -- on from a factor that is not finite, a lowest spot that is not finite, or a variance below c
   pub sound :
       (p k : ℕ) → OneTo (b .paths) p → k ≤ b .simulation .grid .total
       → ((j : ℕ) → 1 ≤ j → j ≤ k → FiniteAt b p j) → Sound (b .simulation) (stateOf b p k)
+  -- of the same states: the lowest spot that a path carries is the lowest since its start
+  pub lowest :
+      (p k : ℕ) → OneTo (b .paths) p → k ≤ b .simulation .grid .total
+      → ((j : ℕ) → 1 ≤ j → j ≤ k → FiniteAt b p j) → LowestSpot (walkOf b p) k
 
 -- ---- the stop
 
@@ -156,14 +160,14 @@ pub record NamesFirst (b : Batch) (answer : BatchAnswer) : Type 0 where
 
 -- ---- what the batch reports
 
--- Rule 18.8: what is made of the states that the paths end with, after N steps, and of how many
--- paths were non-positive; and paths × N steps are taken
+-- Rule 18.8: what is made of the states that the paths end with, after N steps, their lowest spots
+-- among it, and of how many paths were non-positive; and paths × N steps are taken
 unfoldable pub reportOf : Batch → Payoff → BatchAnswer
 unfolding stateAfter reported reportWith
 reportOf b payoff =
     let total = b .simulation .grid .total in
-    reported (b .observed) payoff (λ p. b .observe (stateOf b p total)) (b .paths)
-    (refusedAnswer (b .observed) (b .paths * total))
+    reported (b .observed) payoff (λ p. b .observe (stateOf b p total))
+    (λ p. stateOf b p total .lowest) (b .paths) (refusedAnswer (b .observed) (b .paths * total))
     (λ estimates. pricedAnswer (b .observed) (reportWith b estimates))
 
 -- ---- the observation table
@@ -204,7 +208,8 @@ pub record BatchClaim
   -- Excludes a core that reports non-finite before the first step, one that names another path,
   -- step or quantity, and one that invents the steps taken up to a stop.
   pub names : answer .number ≡ 22 → NamesFirst b answer
-  -- Excludes a core with a fixed price, one that invents the step total, and one that refuses a
-  -- batch that goes through by any number, but for what its plain walks come to.
+  -- Excludes a core with a fixed price, one that pays a put whose path touched its barrier inside a
+  -- segment, one that invents the step total, and one that refuses a batch that goes through by any
+  -- number, but for what its plain walks come to.
   pub otherwise : (SomeStepFails b → ⊥) → answer ≡ reportOf b payoff
   pub written : Written b lent after

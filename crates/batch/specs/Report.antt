@@ -7,9 +7,10 @@ use Rattle.numeric.specs.Double.{plusZero, finite}
 use Rattle.refusal.specs.declared.Refusal.{Refusal}
 use Rattle.refusal.specs.declared.Refusal.the-variants.{OnPath, Estimate}
 use Rattle.refusal.specs.Questions.{Question, ask, firstNo, each, onceAsked}
+use Rattle.model.specs.Walk.{stateAfter}
 use Rattle.walks.specs.declared.Observed.{Observed}
 use Rattle.walks.specs.declared.Observed.the-variants.{Spot, VixSquared}
-use Rattle.walks.specs.Batch.{Batch, nonPositivePaths, observation}
+use Rattle.walks.specs.Batch.{Batch, walkOf, nonPositivePaths, observation}
 use Rattle.estimates.specs.declared.Estimates.{Estimates}
 use Rattle.estimates.specs.declared.Payoff.{Payoff}
 use Rattle.estimates.specs.Payoff.{underlyingOf}
@@ -34,12 +35,15 @@ abbrev pub unlessNotFinite : {A : Type 0} → ℕ → (Refusal → A) → A → 
 unlessNotFinite zero refused answered = answered
 unlessNotFinite (suc which) refused answered = refused (Estimate (suc which))
 
--- Rule 10.7: `priced` of the estimates, or `refused` of the first No of 23 to 25
+-- Rule 10.7: `priced` of the estimates, or `refused` of the first No of 23 to 25; `last p` is the
+-- last observation of path p, and `lowest p` its lowest spot
 unfoldable pub reported :
-    {A : Type 0} → Observed → Payoff → (ℕ → Float) → ℕ → (Refusal → A) → (Estimates → A) → A
+    {A : Type 0} → Observed → Payoff → (ℕ → Float) → (ℕ → Float) → ℕ → (Refusal → A)
+    → (Estimates → A) → A
 unfolding firstNo each tallyOf estimatesFrom notFinite
-reported observed payoff last paths refused priced =
-    let made = estimatesFrom (tallyOf payoff (λ p. underlyingOf observed (last p)) paths) in
+reported observed payoff last lowest paths refused priced =
+    let tally = tallyOf payoff (λ p. underlyingOf observed (last p)) lowest paths in
+    let made = estimatesFrom tally in
     onceAsked (firstNo (lastQuestions observed last paths)) refused
     (unlessNotFinite (notFinite made) refused (priced made))
 
@@ -58,16 +62,18 @@ reportWith b estimates =
       steps = b .paths * b .simulation .grid .total;
     }
 
--- Rule 9.8: 22 where the batch stops; else what is reported of the last observations
+-- Rule 9.8: 22 where the batch stops; else what is reported of the last observations and the lowest
+-- spots
 abbrev pub pricedAt : Batch → Payoff → Option RunStop → Priced
 pricedAt b payoff (some s) = Refused (refusalAt b s) (stepsAt b s)
 pricedAt b payoff none =
     let grid = b .simulation .grid in
     let steps = b .paths * grid .total in
-    reported (b .observed) payoff (λ p. observation b p (grid .count)) (b .paths)
-    (refusedAfter steps) (λ estimates. Price (reportWith b estimates))
+    reported (b .observed) payoff (λ p. observation b p (grid .count))
+    (λ p. stateAfter (walkOf b p) (grid .total) .lowest) (b .paths) (refusedAfter steps)
+    (λ estimates. Price (reportWith b estimates))
 
 -- Rule 9.8: what a batch whose questions before 22 are passed answers
 unfoldable pub pricedRun : Batch → Payoff → Priced
-unfolding runStop observation reported reportWith
+unfolding runStop observation stateAfter reported reportWith
 pricedRun b payoff = pricedAt b payoff (runStop b (b .paths))

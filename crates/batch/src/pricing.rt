@@ -5,7 +5,8 @@ ghost use lib.ListN.{length};
 ghost use Rattle.refusal.specs.Questions.{firstNo, each};
 ghost use Rattle.walks.specs.Inner.Handed.{batchOf};
 ghost use Rattle.batch.specs.Report.{squaredQuestions, lastQuestions};
-ghost use Rattle.paths.specs.Inner.Handed.{Prepared, lastObservation};
+ghost use Rattle.tally.specs.Inner.Rows.{lastObservation};
+ghost use Rattle.paths.specs.Inner.Handed.{Prepared};
 ghost use Rattle.batch.specs.Inner.Handed.{reportedOf, pricedFrom, pricedAfter};
 ghost use Rattle.batch.specs.Inner.Handed.{BatchPriced, Ready, PricedOnceAsked};
 use crate::Priced;
@@ -16,7 +17,6 @@ use estimates::welford;
 use paths::Run;
 use paths::Walked;
 use paths::loops;
-use paths::tally;
 use refusal::Outcome;
 use refusal::Refusal;
 use walks::Batch;
@@ -101,7 +101,7 @@ fn priced_from(walked: Walked, batch: Batch, observations: &[f64]) -> Priced
     reported(walked, batch.paths as u64)
 }
 
-// 22 where a step is not finite, and else what is made of the last column.
+// 22 where a step is not finite, and else what is made of the paths.
 fn priced_after(ran: Run, batch: Batch, observations: &[f64]) -> Priced
     requires { ⌜ 1 ≤ batch .simulation .grid .count ⌝ }
     requires { ⌜ length (now observations)

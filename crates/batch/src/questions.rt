@@ -1,12 +1,13 @@
-// What is asked of a batch before 22, past its model: 18 and 1 of the strike, 19 of the paths, 20
-// of the draws and 21 of the lent table.
+// What is asked of a batch before 22, past its model: 18 and 1 of the strike, 27 and 1 of the
+// barrier, 19 of the paths, 20 of the draws and 21 of the lent table.
 ghost use mathlib.Core.Path.{_≡_};
 ghost use Prim.Native.Nat.{_≤_};
 ghost use Rattle.refusal.specs.Questions.{firstNo};
 ghost use Rattle.model.specs.Inner.Laid.{Laid};
 ghost use Rattle.walks.specs.Batch.{drawsNeeded};
-ghost use Rattle.batch.specs.Questions.{strikeQuestions, vanillaAt, pathsPass};
-ghost use Rattle.batch.specs.Questions.{pathQuestions, batchQuestions};
+ghost use Rattle.batch.specs.Questions.{strikeQuestions, barrierQuestions};
+ghost use Rattle.batch.specs.Questions.{vanillaAt, downAndOutAt};
+ghost use Rattle.batch.specs.Questions.{pathsPass, pathQuestions, batchQuestions};
 use decimal::Decimal;
 use estimates::Payoff;
 use estimates::Style;
@@ -26,6 +27,18 @@ pub fn strike_questions(strike: Decimal) -> Outcome
     refusal::ask(asked, Refusal::Plain(1), decimal::scale_fits(strike))
 }
 
+// Asked of a down-and-out put, after those of its strike.
+pub fn barrier_questions(barrier: Decimal) -> Outcome
+    ensures { λ r. ⌜ r ≡ firstNo (barrierQuestions barrier) ⌝ }
+{
+    let asked = refusal::ask(
+        Outcome::Passed,
+        Refusal::Plain(27),
+        decimal::is_positive(barrier),
+    );
+    refusal::ask(asked, Refusal::Plain(1), decimal::scale_fits(barrier))
+}
+
 pub fn vanilla_payoff(put: bool, strike: Decimal) -> Payoff
     ensures { λ r. ⌜ r ≡ vanillaAt put strike ⌝ }
 {
@@ -39,6 +52,15 @@ pub fn vanilla_payoff(put: bool, strike: Decimal) -> Payoff
     Payoff::Vanilla {
         style: Style::Call,
         strike: converted,
+    }
+}
+
+pub fn down_and_out_payoff(strike: Decimal, barrier: Decimal) -> Payoff
+    ensures { λ r. ⌜ r ≡ downAndOutAt strike barrier ⌝ }
+{
+    Payoff::DownAndOut {
+        strike: decimal::double_of(strike),
+        barrier: decimal::double_of(barrier),
     }
 }
 

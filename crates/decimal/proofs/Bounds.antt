@@ -62,7 +62,7 @@ module _ (c k : ℕ) (C : 0 < c) (W : c < 2 ^ 96) (K : k ≤ 28) where
   hi-positive : T (positive hi)
   hi-positive = positive-of-value hi (2 ^ 96) 1 hi-value (pow-pos 96)
 
-  x-positive : T (positive x)
+  pub x-positive : T (positive x)
   x-positive = between lo x hi lo-positive hi-positive from to
 
   abbrev g : ℕ

@@ -1,20 +1,21 @@
 -- The double of a Decimal, for the proofs of callers: which case it is, that it is finite, and its
 -- sign and size. Assumes nothing.
 use mathlib.Core.Path.{_≡_, refl, sym, ap, ap₂, _∙_, subst}
-use mathlib.Core.Bool.{Bool, true, false, not, _&&_, _||_, cond, and-true, and-false}
+use mathlib.Core.Bool.{Bool, true, false, not, _&&_, _||_, cond, and-true, and-false, and-eq-true-iff}
 use Prim.Native.Nat.{ℕ, _*_, _^_, _≤_, _<_, zero-le}
 use lib.Dec.{T, leb}
 use lib.IntN.{ℤ, pos}
-use lib.Ieee.{fin, binary64, up, down, fits}
+use lib.Ieee.{Float, fin, binary64, up, down, fits, round, le}
 use lib.Ieee.Fits.{round-fits, cond-fits}
-use borrow.Author.Tests.{leb-true, le-leb, lt-leb}
+use borrow.Author.Tests.{not-true, leb-true, le-leb, lt-leb}
 use Rattle.decimal.specs.declared.Decimal.{Decimal}
 use Rattle.decimal.specs.declared.Converted.the-variants.{Value, ScaleTooLarge}
-use Rattle.decimal.specs.Decimal.{coefficient, isZero, isNegative, scaleFits, nearestDouble, value, convert, ConvertsToNearest}
+use Rattle.decimal.specs.Decimal.{coefficient, isZero, isNegative, isPositive, scaleFits, nearestDouble, value, convert, ConvertsToNearest}
 use Rattle.numeric.specs.Correct.{FractionIsNearest}
 use Rattle.numeric.specs.Double.{plusZero}
-use Rattle.decimal.proofs.Zero.{nonzero, negative-is}
-use Rattle.decimal.proofs.Bounds.{within, is-nearest}
+use Rattle.numeric.proofs.Above.{positive-above}
+use Rattle.decimal.proofs.Zero.{nonzero, negative-is, positive-is}
+use Rattle.decimal.proofs.Bounds.{x-positive, within, is-nearest}
 
 -- ---- the cases of `value`
 by-tests : (d : Decimal) (z f : Bool) → isZero d ≡ z → leb (d .scale) 28 ≡ f → value d ≡ cond z plusZero (cond f (nearestDouble d) plusZero)
@@ -86,6 +87,16 @@ module _ (d : Decimal) (W : coefficient d < 2 ^ 96) where
       let K = leb-true (d .scale) 28 (sym (fits-is d false (leb (d .scale) 28) z refl) ∙ f) in
       subst (FractionIsNearest (d .negative) (coefficient d) (10 ^ d .scale)) (sym (nearest-value d z K))
       (is-nearest (coefficient d) (d .scale) (nonzero d z) W K (d .negative))
+
+  -- ---- a positive Decimal converts to a double above zero
+  pub positive-value : isPositive d ≡ true → scaleFits d ≡ true → le (value d) plusZero ≡ false
+  positive-value p f =
+      let signs = and-eq-true-iff (not (d .negative)) (not (isZero d)) .0 (sym (positive-is d) ∙ p) in
+      let plain : d .negative ≡ false = not-true (d .negative) (signs .0) in
+      let some : isZero d ≡ false = not-true (isZero d) (signs .1) in
+      let K = leb-true (d .scale) 28 (sym (fits-is d false (leb (d .scale) 28) some refl) ∙ f) in
+      ap (λ (v : Float). le v plusZero) (nearest-value d some K ∙ ap (λ (s : Bool). round binary64 s (coefficient d) (10 ^ d .scale)) plain)
+      ∙ positive-above _ (x-positive (coefficient d) (d .scale) (nonzero d some) W K)
 
 pub value-fits : (d : Decimal) → T (fits binary64 (value d))
 unfolding value

@@ -12,12 +12,12 @@ use Rattle.estimates.specs.Moments.{withValue, withPath, tallyOf}
 
 -- one path more, from what it pays and from both moments
 pub path-added :
-    (payoff : Payoff) (t : Tally) (u : Float) {paid : Float} {a b : Moments}
-    → paid ≡ payoffOf payoff u → a ≡ withValue (t .payoffs) paid
+    (payoff : Payoff) (t : Tally) (u lowest : Float) {paid : Float} {a b : Moments}
+    → paid ≡ payoffOf payoff u lowest → a ≡ withValue (t .payoffs) paid
     → b ≡ withValue (t .underlyings) u
-    → record { payoffs = a; underlyings = b } ≡ withPath payoff t u
+    → record { payoffs = a; underlyings = b } ≡ withPath payoff t u lowest
 unfolding withPath
-path-added payoff t u p a b = rw (a, b, p)
+path-added payoff t u lowest p a b = rw (a, b, p)
 
 -- the same values up to n
 module _ {A : Type 0} (f g : ℕ → A) where
@@ -25,12 +25,12 @@ module _ {A : Type 0} (f g : ℕ → A) where
   SameUpTo n = (p : ℕ) → 1 ≤ p → p ≤ n → f p ≡ g p
 
 pub tally-same :
-    (payoff : Payoff) (f g : ℕ → Float) (n : ℕ) → SameUpTo f g n
-    → tallyOf payoff f n ≡ tallyOf payoff g n
+    (payoff : Payoff) (f g lowest : ℕ → Float) (n : ℕ) → SameUpTo f g n
+    → tallyOf payoff f lowest n ≡ tallyOf payoff g lowest n
 unfolding tallyOf
-tally-same payoff f g zero same = refl
-tally-same payoff f g (suc n) same =
+tally-same payoff f g lowest zero same = refl
+tally-same payoff f g lowest (suc n) same =
     rw (
-      tally-same payoff f g n (λ p l h. same p l (omega arith)),
+      tally-same payoff f g lowest n (λ p l h. same p l (omega arith)),
       same (suc n) (omega arith) (omega arith),
     )

@@ -32,21 +32,22 @@ withValue m v =
 abbrev pub noPaths : Tally
 noPaths = record { payoffs = noMoments; underlyings = noMoments }
 
--- Rule 10.2: with one path more, whose underlying is u
-unfoldable pub withPath : Payoff → Tally → Float → Tally
+-- Rule 10.2: with one path more, whose underlying is u, and its lowest spot this
+unfoldable pub withPath : Payoff → Tally → Float → Float → Tally
 unfolding withValue payoffOf
-withPath payoff t u =
+withPath payoff t u lowest =
     record {
-      payoffs = withValue (t .payoffs) (payoffOf payoff u);
+      payoffs = withValue (t .payoffs) (payoffOf payoff u lowest);
       underlyings = withValue (t .underlyings) u;
     }
 
--- Rule 10.2: of the first n paths, in their order, `underlying p` being that of path p
-unfoldable pub tallyOf : Payoff → (ℕ → Float) → ℕ → Tally
+-- Rule 10.2: of the first n paths, in their order, `underlying p` and `lowest p` being those of
+-- path p
+unfoldable pub tallyOf : Payoff → (ℕ → Float) → (ℕ → Float) → ℕ → Tally
 unfolding withPath
-tallyOf payoff underlying zero = noPaths
-tallyOf payoff underlying (suc n) =
-    withPath payoff (tallyOf payoff underlying n) (underlying (suc n))
+tallyOf payoff underlying lowest zero = noPaths
+tallyOf payoff underlying lowest (suc n) =
+    withPath payoff (tallyOf payoff underlying lowest n) (underlying (suc n)) (lowest (suc n))
 
 -- Rule 10.3: the mean and its standard error
 unfoldable pub estimateOf : Moments → MeanAndError

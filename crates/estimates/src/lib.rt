@@ -7,10 +7,11 @@ pub enum Style {
     Put,
 }
 
-// A payoff with its strike as converted.
+// A payoff, with strike and barrier as converted. Only a put has a barrier.
 pub enum Payoff {
     Future,
     Vanilla { style: Style, strike: f64 },
+    DownAndOut { strike: f64, barrier: f64 },
 }
 
 // The running mean and squared deviations of Welford's algorithm.

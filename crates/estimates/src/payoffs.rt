@@ -14,13 +14,20 @@ pub fn vanilla_payoff(style: Style, strike: f64, x: f64) -> f64
     }
 }
 
-// What a payoff pays on the spot or the index.
-pub fn payoff_of(payoff: Payoff, x: f64) -> f64
-    ensures { λ r. ⌜ r ≡ payoffOf payoff x ⌝ }
+// What a payoff pays on the spot or the index, where this is the path's lowest spot.
+pub fn payoff_of(payoff: Payoff, x: f64, lowest: f64) -> f64
+    ensures { λ r. ⌜ r ≡ payoffOf payoff x lowest ⌝ }
 {
     match payoff {
         Payoff::Future => x,
         Payoff::Vanilla { style, strike } => vanilla_payoff(style, strike, x),
+        Payoff::DownAndOut { strike, barrier } => {
+            if lowest <= barrier {
+                0.0
+            } else {
+                vanilla_payoff(Style::Put, strike, x)
+            }
+        }
     }
 }
 

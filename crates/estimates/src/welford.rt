@@ -75,12 +75,15 @@ pub fn no_paths() -> Tally
     }
 }
 
-// With one path more, which shows the payoff this spot or index.
-pub fn with_path(tally: Tally, payoff: Payoff, underlying: f64) -> Tally
-    ensures { λ r. ⌜ r ≡ withPath payoff tally underlying ⌝ }
+// With one path more, which shows the payoff this spot or index and this lowest spot.
+pub fn with_path(tally: Tally, payoff: Payoff, underlying: f64, lowest: f64) -> Tally
+    ensures { λ r. ⌜ r ≡ withPath payoff tally underlying lowest ⌝ }
 {
     Tally {
-        payoffs: added(tally.payoffs, payoffs::payoff_of(payoff, underlying)),
+        payoffs: added(
+            tally.payoffs,
+            payoffs::payoff_of(payoff, underlying, lowest),
+        ),
         underlyings: added(tally.underlyings, underlying),
     }
 }

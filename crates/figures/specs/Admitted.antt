@@ -4,8 +4,8 @@ use mathlib.Core.Bool.{true, false}
 use mathlib.Core.List.{List, [], _∷_}
 use Prim.Native.Nat.{ℕ, zero, suc}
 use native.Mathlib.Omega.{arith}
-use lib.ListN.{length}
-use lib.Ieee.{Float, inf, le, round, ofBits}
+use lib.ListN.{length, getD}
+use lib.Ieee.{Float, nan, inf, lt, le, round, ofBits}
 use Rattle.numeric.specs.Double.{plusZero}
 use Rattle.decimal.specs.Decimal.{value, isNegative, isPositive, scaleFits}
 use Rattle.refusal.specs.declared.Quantity.{Quantity}
@@ -23,14 +23,23 @@ use Rattle.model.specs.Walk.{stateAfter}
 use Rattle.admission.specs.Questions.{rangeQuestions, scaleQuestions}
 use Rattle.batch.specs.Claim.{BatchAnswer, OneTo, stateOf, FiniteAt, SomeStepFails, FirstFailure}
 use Rattle.batch.specs.Claim.{Reaches, reportOf}
-use Rattle.vanilla.specs.Call.{VanillaInputs, vanillaQuestions, vanillaBatch, vanillaPayoff}
+use Rattle.vanilla.specs.declared.Terms.the-variants.{DownAndOut}
+use Rattle.vanilla.specs.Call.{VanillaInputs, vanillaInputs, vanillaQuestions}
+use Rattle.vanilla.specs.Call.{vanillaBatch, vanillaPayoff}
 use Rattle.vix_batch.specs.Call.{VixBatchInputs, vixBatchInputs, vixBatchQuestions}
-use Rattle.figures.specs.Given.{bits, decimal, steps, oneStep, givenOf, callAt100, calm}
+use Rattle.figures.specs.Given.{bits, decimal, steps, oneStep, givenOf, callAt100}
+use Rattle.figures.specs.Given.{model, calm}
 
 -- ---- the batches
 
 abbrev pub half : Float
 half = bits 0x3FE0000000000000
+
+abbrev pub minusHalf : Float
+minusHalf = bits 0xBFE0000000000000
+
+abbrev pub plusOne : Float
+plusOne = bits 0x3FF0000000000000
 
 abbrev pub minusOne : Float
 minusOne = bits 0xBFF0000000000000
@@ -52,6 +61,18 @@ abbrev pub twice : VanillaInputs
 twice =
     callAt100 (steps 2) false
     (half ∷ half ∷ half ∷ half ∷ [])
+
+-- a put at 200 that vanishes at 60: within their one segment both paths fall from 100 to 50, and
+-- rise above 100 again
+abbrev pub touched : VanillaInputs
+touched =
+    vanillaInputs (givenOf model (steps 2))
+    (record {
+      terms = DownAndOut (decimal 200 0) (decimal 60 0);
+      mirrored = false;
+      paths = 2;
+    })
+    (minusHalf ∷ plusOne ∷ minusHalf ∷ plusOne ∷ [])
 
 -- mirrored: path 2 has the draw of path 1 negated
 abbrev pub mirrored : VanillaInputs
@@ -103,6 +124,10 @@ pub twice-admitted : vanillaAsked twice ≡ Passed
 unfolding vanillaAsked
 twice-admitted = refl
 
+pub touched-admitted : vanillaAsked touched ≡ Passed
+unfolding vanillaAsked
+touched-admitted = refl
+
 pub mirrored-admitted : vanillaAsked mirrored ≡ Passed
 unfolding vanillaAsked
 mirrored-admitted = refl
@@ -145,6 +170,28 @@ pub level-report :
 unfolding reportOf startOf gridOf value round ofBits
 level-report = refl
 
+-- both paths touch the barrier, path 1 ends above it, as path 2 does, and the put pays nothing
+pub touched-ends-above :
+    lt (value (decimal 60 0)) (stateOf (vanillaBatch touched) 1 2 .spot) ≡ true
+unfolding startOf gridOf stateAfter value round ofBits lt
+touched-ends-above = refl
+
+pub touched-price : getD (report touched .doubles) 0 nan ≡ plusZero
+unfolding reportOf startOf gridOf value round ofBits
+touched-price = refl
+
+-- ---- the lowest spot: that of the start where it rises, and the new one where it falls
+
+-- after the step of P7
+pub seven-lowest : stateOf (vanillaBatch nine) 1 1 .lowest ≡ value (decimal 100 0)
+unfolding startOf gridOf stateAfter value round ofBits
+seven-lowest = refl
+
+-- after the step of P8
+pub eight-lowest : stateOf (vanillaBatch nine) 2 1 .lowest ≡ plusZero
+unfolding startOf gridOf stateAfter value round ofBits
+eight-lowest = refl
+
 -- ---- which steps are finite
 
 module _ (P : ℕ → Type 0) where
@@ -171,6 +218,14 @@ pub nine-passes : SomeStepFails (vanillaBatch nine) → ⊥
 unfolding startOf gridOf stateAfter finiteness value round ofBits
 nine-passes s =
     s .fails (both-finite nine refl refl (s .path) (s .step) (s .is-path) (s .is-step))
+
+pub touched-passes : SomeStepFails (vanillaBatch touched) → ⊥
+unfolding startOf gridOf stateAfter finiteness value round ofBits
+touched-passes s =
+    let finite : (p : ℕ) → ℕ → Type 0 = FiniteAt (vanillaBatch touched) in
+    s .fails
+    (two (λ k. finite (s .path) k) (two (λ p. finite p 1) refl refl (s .path) (s .is-path))
+    (two (λ p. finite p 2) refl refl (s .path) (s .is-path)) (s .step) (s .is-step))
 
 pub level-passes : SomeStepFails (vanillaBatch level) → ⊥
 unfolding startOf gridOf stateAfter finiteness value round ofBits

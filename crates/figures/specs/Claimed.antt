@@ -67,6 +67,7 @@ admitted a not-negative converted =
             lambda = record { double = refl; small = refl };
             eta = record { double = refl; small = refl };
             spot = record { double = refl; small = refl };
+            spot-above = refl;
             factor =
                 at-first (λ i. Converted (getD (startOf kernel (withA a) .factors) i nan))
                 (record { double = refl; small = refl });

@@ -16,9 +16,10 @@ use Rattle.model.specs.TimeGrid.{gridOf}
 use Rattle.model.specs.Walk.{stateAfter}
 use Rattle.batch.specs.Claim.{BatchAnswer, OneTo, stateOf, entry, BatchClaim}
 use Rattle.vanilla.specs.Call.{VanillaInputs, vanillaBatch, vanillaPayoff}
-use Rattle.figures.specs.Admitted.{nine, ten, level, twice, lent, vanillaAsked}
+use Rattle.figures.specs.Admitted.{nine, ten, level, twice, touched, lent, vanillaAsked}
 use Rattle.figures.specs.Admitted.{nine-admitted, nine-passes, nine-report, nine-reaches}
 use Rattle.figures.specs.Admitted.{level-admitted, level-passes, level-report}
+use Rattle.figures.specs.Admitted.{touched-admitted, touched-passes, touched-price}
 use Rattle.figures.specs.Admitted.{ten-admitted, ten-stops, ten-refused, ten-ends}
 use Rattle.figures.specs.Admitted.{twice-admitted, twice-reaches}
 
@@ -111,6 +112,16 @@ fixed-price price after after′ answer answer′ fixed fixed′ claim claim′ 
     let is-25 = ap first (claim nine-admitted .otherwise nine-passes ∙ nine-report) in
     let is-50 = ap first (claim′ level-admitted .otherwise level-passes ∙ level-report) in
     apart refl refl (sym is-25 ∙ fixed ∙ sym fixed′ ∙ is-50)
+
+-- ---- a core that pays a put whose path touched its barrier inside a segment: by `otherwise`
+pub pays-after-a-touch :
+    (after : List Float) (answer : BatchAnswer) → (getD (answer .doubles) 0 nan ≡ plusZero → ⊥)
+    → Excluded touched after answer
+pays-after-a-touch after answer pays claim =
+    pays
+    (ap (λ (a : BatchAnswer). getD (a .doubles) 0 nan)
+    (claim touched-admitted .otherwise touched-passes)
+    ∙ touched-price)
 
 -- ---- a core that invents the step total
 

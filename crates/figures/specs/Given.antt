@@ -10,6 +10,7 @@ use Rattle.model.specs.declared.Model.{Model}
 use Rattle.model.specs.declared.Schedule.{Schedule}
 use Rattle.model.specs.Kernel.{kernelOf}
 use Rattle.model.specs.Simulation.{Given, given}
+use Rattle.vanilla.specs.declared.Terms.the-variants.{Vanilla}
 use Rattle.vanilla.specs.Call.{VanillaInputs, vanillaInputs}
 
 -- the double of these bits
@@ -70,5 +71,5 @@ givenOf model schedule = given weights discounts model schedule
 abbrev pub callAt100 : Schedule → Bool → List Float → VanillaInputs
 callAt100 schedule mirrored draws =
     vanillaInputs (givenOf model schedule)
-    (record { put = false; strike = decimal 100 0; mirrored = mirrored; paths = 2 })
+    (record { terms = Vanilla false (decimal 100 0); mirrored = mirrored; paths = 2 })
     draws

@@ -1,6 +1,7 @@
-// Runs the checked figures (rules 19.1 and 19.2), and compares each with what it should be.
+// Runs the checked figures (rules 19.1 to 19.3), and compares each with what it should be.
 use libc::STDOUT_FILENO;
 
+mod barriers;
 mod exponentials;
 mod given;
 mod report;
@@ -13,6 +14,7 @@ fn main() {
     let mut wrong = scalar::figures(0);
     wrong = traces::figures(wrong);
     wrong = vanillas::figures(wrong);
+    wrong = barriers::figures(wrong);
     wrong = exponentials::figures(wrong);
     wrong = vix::figures(wrong);
     io::print_decimal(STDOUT_FILENO, wrong);

@@ -1,11 +1,9 @@
 -- The invariant of four paths side by side, over any batch, what each turn does to it, and what it
 -- says at the end. Assumes nothing.
 use mathlib.Core.Path.{_≡_, sym, ap, _∙_, subst}
-use mathlib.Core.Bool.{Bool, false, cond}
 use mathlib.Core.List.{List}
 use mathlib.Core.Logic.{⊎-elim}
-use Prim.Native.Nat.{ℕ, zero, suc, _+_, _*_, _<_, _≤_}
-use native.Mathlib.Nat.{add-zero, add-assoc}
+use Prim.Native.Nat.{ℕ, suc, _+_, _*_, _<_, _≤_}
 use native.Mathlib.Numerals.{add-one}
 use native.Mathlib.Omega.{arith}
 use lib.Ieee.{Float, nan}
@@ -23,8 +21,8 @@ use Rattle.model.proofs.First.{split}
 use Rattle.model.proofs.FiniteStates.{parts-finite}
 use Rattle.walks.proofs.Absorbing.{never-stopped}
 use Rattle.model.proofs.Containment.{Reached, reached-none, reached-open, reached-shut, reached-next, reached-on}
-use Rattle.walks.specs.Batch.{Batch, walkOf, nonPositiveBy, nonPositivePaths, observation}
-use Rattle.groups.specs.Inner.Group.{flagged, Fell, FourWalked}
+use Rattle.walks.specs.Batch.{Batch, walkOf, observation}
+use Rattle.groups.specs.Inner.Group.{FourWalked}
 
 -- the cells of the four rows up to `segment`
 abbrev pub RowsFilled : Batch → ℕ → ℕ → List Float → Type 0
@@ -32,43 +30,37 @@ RowsFilled b path segment rows = (l j : ℕ) → l < 4 → j < segment → getD 
 
 -- at the head of the loop: `at` steps of paths path + 1 to path + 4 are walked, and their rows are
 -- filled up to `segment`
-pub record Beside (b : Batch) (n path : ℕ) (segment at : ℕ) (s : Lanes) (factors : List Float) (low : List Bool) (rows : List Float) : Type 0 where
+pub record Beside (b : Batch) (n path : ℕ) (segment at : ℕ) (s : Lanes) (factors : List Float) (rows : List Float) : Type 0 where
   pub most : at ≤ b .simulation .grid .total
   pub reached : Reached (b .simulation .grid) segment at
   pub long : length factors ≡ 40
   pub wide : length rows ≡ 256
   pub state : (l : ℕ) → l < 4 → laneOf n s factors l ≡ stateAfter (walkOf b (suc (path + l))) at
-  pub fallen : (l : ℕ) → l < 4 → getD low l false ≡ nonPositiveBy (walkOf b (suc (path + l))) at
   pub filled : RowsFilled b path segment rows
 
 -- the loop begins
-pub beside-first : (b : Batch) → Laid (b .simulation .grid) → (n path : ℕ) (s : Lanes) (factors : List Float) (low : List Bool) (rows : List Float) → length factors ≡ 40 → length rows ≡ 256 → ((l : ℕ) → l < 4 → laneOf n s factors l ≡ b .simulation .start) → ((l : ℕ) → l < 4 → getD low l false ≡ false) → Beside b n path 0 0 s factors low rows
-unfolding stateAfter nonPositiveBy
-beside-first b ok n path s factors low rows long wide state flags =
+pub beside-first : (b : Batch) → Laid (b .simulation .grid) → (n path : ℕ) (s : Lanes) (factors : List Float) (rows : List Float) → length factors ≡ 40 → length rows ≡ 256 → ((l : ℕ) → l < 4 → laneOf n s factors l ≡ b .simulation .start) → Beside b n path 0 0 s factors rows
+unfolding stateAfter
+beside-first b ok n path s factors rows long wide state =
     record {
       most = omega arith;
       reached = reached-none (b .simulation .grid) ok;
       long = long;
       wide = wide;
       state = state;
-      fallen = flags;
       filled = λ l j h k. absurd (omega arith);
     }
 
-module _ {b : Batch} (ok : Laid (b .simulation .grid)) {n path segment at : ℕ} {s : Lanes} {factors : List Float} {low : List Bool} {rows : List Float} (h : Beside b n path segment at s factors low rows) where
-  module _ (k : at < b .simulation .grid .total) (s′ : Lanes) (factors′ : List Float) (low′ : List Bool)
+module _ {b : Batch} (ok : Laid (b .simulation .grid)) {n path segment at : ℕ} {s : Lanes} {factors : List Float} {rows : List Float} (h : Beside b n path segment at s factors rows) where
+  module _ (k : at < b .simulation .grid .total) (s′ : Lanes) (factors′ : List Float)
       (e : (l : ℕ) → l < 4 → laneOf n s′ factors′ l ≡ step (b .simulation .kernel) (b .simulation .params) (laneOf n s factors l) (b .draw (suc (path + l)) (suc at)) (dtAt (b .simulation .grid) (suc at)) (sqrtDtAt (b .simulation .grid) (suc at)))
-      (long′ : length factors′ ≡ 40) (f : Fell low (s′ .spot) low′) where
+      (long′ : length factors′ ≡ 40) where
     next-state : (l : ℕ) → l < 4 → laneOf n s′ factors′ l ≡ stateAfter (walkOf b (suc (path + l))) (suc at)
     unfolding stateAfter
     next-state l m = e l m ∙ ap (λ (x : State). step (b .simulation .kernel) (b .simulation .params) x (b .draw (suc (path + l)) (suc at)) (dtAt (b .simulation .grid) (suc at)) (sqrtDtAt (b .simulation .grid) (suc at))) (h .state l m)
 
-    next-low : (l : ℕ) → l < 4 → getD low′ l false ≡ nonPositiveBy (walkOf b (suc (path + l))) (suc at)
-    unfolding nonPositiveBy
-    next-low l m = f .flag l m ∙ rw (h .fallen l m, ap (λ (x : State). x .spot) (next-state l m))
-
     -- a step that ends no segment
-    pub beside-on : (at + 1 ≡ lastStep (b .simulation .grid) (suc segment) → ⊥) → Beside b n path segment (at + 1) s′ factors′ low′ rows
+    pub beside-on : (at + 1 ≡ lastStep (b .simulation .grid) (suc segment) → ⊥) → Beside b n path segment (at + 1) s′ factors′ rows
     beside-on ne =
         let here : segment < b .simulation .grid .count = reached-open (b .simulation .grid) ok segment at (h .reached) k in
         record {
@@ -77,12 +69,11 @@ module _ {b : Batch} (ok : Laid (b .simulation .grid)) {n path segment at : ℕ}
           long = long′;
           wide = h .wide;
           state = λ l m. rw add-one (next-state l m);
-          fallen = λ l m. rw add-one (next-low l m);
           filled = h .filled;
         }
 
     -- a step that ends a segment, whose column is written
-    pub beside-write : at + 1 ≡ lastStep (b .simulation .grid) (suc segment) → (rows′ : List Float) → length rows′ ≡ 256 → ((l : ℕ) → l < 4 → getD rows′ (l * b .simulation .grid .count + segment) nan ≡ b .observe (laneOf n s′ factors′ l)) → ((l j : ℕ) → l < 4 → j < b .simulation .grid .count → (j ≡ segment → ⊥) → getD rows′ (l * b .simulation .grid .count + j) nan ≡ getD rows (l * b .simulation .grid .count + j) nan) → Beside b n path (segment + 1) (at + 1) s′ factors′ low′ rows′
+    pub beside-write : at + 1 ≡ lastStep (b .simulation .grid) (suc segment) → (rows′ : List Float) → length rows′ ≡ 256 → ((l : ℕ) → l < 4 → getD rows′ (l * b .simulation .grid .count + segment) nan ≡ b .observe (laneOf n s′ factors′ l)) → ((l j : ℕ) → l < 4 → j < b .simulation .grid .count → (j ≡ segment → ⊥) → getD rows′ (l * b .simulation .grid .count + j) nan ≡ getD rows (l * b .simulation .grid .count + j) nan) → Beside b n path (segment + 1) (at + 1) s′ factors′ rows′
     unfolding observation
     beside-write q rows′ wide′ new kept =
         let here : segment < b .simulation .grid .count = reached-open (b .simulation .grid) ok segment at (h .reached) k in
@@ -93,7 +84,6 @@ module _ {b : Batch} (ok : Laid (b .simulation .grid)) {n path segment at : ℕ}
           long = long′;
           wide = wide′;
           state = λ l m. rw add-one (next-state l m);
-          fallen = λ l m. rw add-one (next-low l m);
           filled = λ l j m i.
               ⊎-elim (λ (z : j < segment). kept l j m (omega arith) (λ (y : j ≡ segment). absurd (omega arith)) ∙ h .filled l j m z)
               (λ (z : segment ≤ j).
@@ -108,27 +98,17 @@ module _ {b : Batch} (ok : Laid (b .simulation .grid)) {n path segment at : ℕ}
     all : at ≡ b .simulation .grid .total
     all = omega (arith, h .most)
 
-    fallen-among : (m : ℕ) → m ≤ 4 → nonPositivePaths b (path + m) ≡ nonPositivePaths b path + flagged low m
-    unfolding nonPositivePaths flagged
-    fallen-among zero l = ap (nonPositivePaths b) (add-zero path) ∙ sym (add-zero (nonPositivePaths b path))
-    fallen-among (suc m) l =
-        let e : path + suc m ≡ suc (path + m) = omega arith in
-        ap (nonPositivePaths b) e
-        ∙ rw (fallen-among m (omega arith), sym (h .fallen m (omega arith) ∙ ap (nonPositiveBy (walkOf b (suc (path + m)))) all))
-        (add-assoc (nonPositivePaths b path) (flagged low m) (cond (getD low m false) 1 0))
-
-    pub beside-done : (count : ℕ) → count ≡ flagged low 4 → count ≤ 4 → ((l : ℕ) → l < 4 → FiniteLane s l) → FourWalked b path rows count
-    beside-done count e few f =
+    pub beside-done : ((l : ℕ) → l < 4 → FiniteLane s l) → FourWalked b path rows (s .lowest)
+    beside-done f =
         record {
           going = λ l m.
               never-stopped (walkOf b (suc (path + l))) (b .simulation .grid .total)
               (ap finiteness (sym (h .state l m ∙ ap (stateAfter (walkOf b (suc (path + l)))) all)) ∙ parts-finite (laneOf n s factors l) (f l m .spot) (f l m .z) (f l m .variance));
-          fallen = fallen-among 4 (omega arith) ∙ ap (λ (x : ℕ). nonPositivePaths b path + x) (sym e);
-          few = few;
+          least = λ l m. ap (λ (x : State). x .lowest) (h .state l m ∙ ap (stateAfter (walkOf b (suc (path + l)))) all);
           seen = λ l j m i. h .filled l j m (omega (arith, reached-shut (b .simulation .grid) ok segment at (h .reached) k));
         }
 
 -- every lane at the start
 pub lane-at-start : (n : ℕ) (start : State) (s : Lanes) (factors : List Float) → n ≤ length (start .factors) → AllAt start s → Spread n (start .factors) factors → (l : ℕ) → l < 4 → laneOf n s factors l ≡ stateInUse n start
 lane-at-start n start s factors long a f l h =
-    rw (a .spot l h, a .z l h, a .variance l h, sym (take-is-tabulate nan n (λ (i : ℕ). getD factors (4 * i + l) nan) (start .factors) long (λ i j. sym (f .new i l j h))))
+    rw (a .spot l h, a .z l h, a .variance l h, a .lowest l h, sym (take-is-tabulate nan n (λ (i : ℕ). getD factors (4 * i + l) nan) (start .factors) long (λ i j. sym (f .new i l j h))))

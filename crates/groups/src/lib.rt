@@ -1,12 +1,13 @@
 // A group of four paths of a batch, walked side by side: the same walks as those of one path after
 // the other, where each of their steps is finite.
 ghost use mathlib.Core.Path.{_≡_};
+ghost use mathlib.Core.Bool.{true, false};
 ghost use Prim.Native.Nat.{ℕ, suc, _+_, _≤_, _<_};
 ghost use lib.ListN.{length, getD};
 ghost use lib.Ieee.{nan};
 ghost use Rattle.walks.specs.Batch.{drawPlace, drawOf};
 ghost use Rattle.walks.specs.Inner.Handed.{batchOf};
-ghost use Rattle.groups.specs.Inner.Group.{GroupPrepared, Walks, flagged, Fell};
+ghost use Rattle.groups.specs.Inner.Group.{GroupPrepared, FourWalked};
 ghost use Rattle.groups.specs.Inner.Group.{ObservedLanes, Column, Copied};
 use lanes::Lanes;
 use model::scheme;
@@ -14,11 +15,11 @@ use walks::Batch;
 use walks::Observation;
 use walks::Observed;
 
-// What a group came to: all four walked to their ends, with so many of them non-positive, or a step
-// that was not finite or a root that was not found, and then nothing is known.
-pub enum Together {
-    Walked { non_positive: u64 },
-    Unsure,
+// What a group came to. Where it is sure, all four are walked to their ends, with these lowest
+// spots. Else a step was not finite or a root was not found, and nothing is known.
+pub struct Together {
+    pub sure: bool,
+    pub lowest: [f64; 4],
 }
 
 // The draws of step `at` + 1 of paths `path` + 1 to `path` + 4.
@@ -35,36 +36,6 @@ fn draws_at(mirrored: bool, draws: &[f64], total: usize, path: usize, at: usize)
         walks::draw_at(mirrored, draws, total, path + 2, at),
         walks::draw_at(mirrored, draws, total, path + 3, at),
     ]
-}
-
-// The flags, with those set of the lanes whose spot is not above zero.
-fn fallen(low: [bool; 4], spot: [f64; 4]) -> [bool; 4]
-    ensures { λ r. ⌜ Fell low spot r ⌝ }
-{
-    let mut flags = low;
-    let mut l: usize = 0;
-    while l < 4 {
-        if spot[l] <= 0.0 {
-            flags[l] = true;
-        }
-        l += 1;
-    }
-    flags
-}
-
-// How many flags are set.
-fn set_flags(low: [bool; 4]) -> u64
-    ensures { λ r. ⌜ (r ≡ flagged low 4) × (r ≤ 4) ⌝ }
-{
-    let mut count: u64 = 0;
-    let mut l: usize = 0;
-    while l < 4 {
-        if low[l] {
-            count += 1;
-        }
-        l += 1;
-    }
-    count
 }
 
 // What is observed in each lane.
@@ -94,13 +65,22 @@ fn write_column(values: [f64; 4], count: usize, segment: usize, rows: &mut [f64]
     }
 }
 
+fn unsure() -> Together
+    ensures { λ r. ⌜ r .sure ≡ false ⌝ }
+{
+    Together {
+        sure: false,
+        lowest: [0.0; 4],
+    }
+}
+
 // Paths `path` + 1 to `path` + 4. Their observations go to `rows`, a row a path and a column a
 // segment. Finiteness is asked once: a path that ends finite was finite throughout.
 pub fn walk_four(batch: Batch, path: usize, draws: &[f64], rows: &mut [f64]) -> Together
     requires { ⌜ GroupPrepared batch path (now draws) (now rows) ⌝ }
     ensures long { λ r. ⌜ length (now (rows .exit)) ≡ 256 ⌝ }
-    ensures walks { λ r. ⌜ Walks (batchOf batch (now (draws .entry))) path
-        (now (rows .exit)) r ⌝ }
+    ensures walks { λ r. ⌜ (r .sure ≡ true → FourWalked (batchOf batch (now (draws .entry)))
+        path (now (rows .exit)) (r .lowest)) ⌝ }
 {
     let mirrored = batch.mirrored;
     let observation = batch.observation;
@@ -115,7 +95,6 @@ pub fn walk_four(batch: Batch, path: usize, draws: &[f64], rows: &mut [f64]) -> 
     let mut factors = [0.0; 40];
     lanes::spread(k.n, own, &mut factors[..]);
     let mut s = lanes::all_at(start);
-    let mut low = [false; 4];
     let mut segment: usize = 0;
     let mut rates = scheme::rates_at(k, sched, segment);
     let mut at: usize = 0;
@@ -123,14 +102,11 @@ pub fn walk_four(batch: Batch, path: usize, draws: &[f64], rows: &mut [f64]) -> 
         let g = draws_at(mirrored, draws, total, path, at);
         let tried = lanes::scheme::try_step(k, p, s, g, rates, &mut factors[..]);
         if !tried.sure {
-            return Together::Unsure;
+            return unsure();
         }
         let next = tried.lanes;
         s = next;
         at += 1;
-        let spot = s.spot;
-        let flags = fallen(low, spot);
-        low = flags;
         if at == sched.last[segment] {
             let values = observe(observation, s, &factors[..]);
             write_column(values, count, segment, rows);
@@ -139,10 +115,12 @@ pub fn walk_four(batch: Batch, path: usize, draws: &[f64], rows: &mut [f64]) -> 
         }
     }
     if !lanes::all_finite(s) {
-        return Together::Unsure;
+        return unsure();
     }
-    Together::Walked {
-        non_positive: set_flags(low),
+    let lowest = s.lowest;
+    Together {
+        sure: true,
+        lowest: lowest,
     }
 }
 

@@ -9,7 +9,7 @@ use borrow.Author.Count.{below-more}
 use lib.ListN.{length, getD, take}
 use lib.Seq.{getD-take}
 use lib.Ieee.{Float, nan, binary64, neg}
-use Rattle.numeric.specs.Double.{plus, times, over, minusZero}
+use Rattle.numeric.specs.Double.{plus, times, over, minusZero, smaller}
 use Rattle.numeric.specs.Root.{root}
 use Rattle.numeric.proofs.Tables.{getD-tabulate, tabulate-same}
 use Rattle.model.specs.declared.Kernel.{Kernel}
@@ -90,17 +90,28 @@ module _ (k : Kernel) (p : Params) (s : Lanes) (rates : Rates) (forcing before a
   lane-sum : getD z l nan ≡ weightedSum (take (k .n) (k .weights)) (laneFactors (k .n) after l) (k .n)
   lane-sum = m .sum l h ∙ sym (weights-take (k .weights) _ (k .n) (k .n) (omega arith))
 
-  lane-read : (spot variance : Float) → variance ≡ varianceAt p (getD z l nan) → _≡_ {A = State} (record { spot = spot; z = getD z l nan; variance = variance; factors = laneFactors (k .n) after l }) (read (kernelInUse k) p spot (laneFactors (k .n) after l))
-  unfolding read
-  lane-read spot variance v = rw (v, lane-sum)
+  -- a lane with this spot, variance and lowest spot
+  abbrev lane-with : Float → Float → Float → State
+  lane-with spot variance lowest =
+      record {
+        spot = spot;
+        z = getD z l nan;
+        variance = variance;
+        factors = laneFactors (k .n) after l;
+        lowest = lowest;
+      }
 
-  lane-step : (y g spot variance : Float) → y ≡ root binary64 (getD (s .variance) l nan) → getD forcing l nan ≡ forcingOf p (rates .dt) (getD (s .z) l nan) (diffusionOf (rates .«sqrt_dt») y g) → spot ≡ plus (getD (s .spot) l nan) (times (getD (s .spot) l nan) (diffusionOf (rates .«sqrt_dt») y g)) → variance ≡ varianceAt p (getD z l nan)
-      → _≡_ {A = State} (record { spot = spot; z = getD z l nan; variance = variance; factors = laneFactors (k .n) after l }) (step (kernelInUse k) p (laneOf (k .n) s before l) g (rates .dt) (rates .«sqrt_dt»))
+  lane-read : (spot variance lowest : Float) → variance ≡ varianceAt p (getD z l nan) → lane-with spot variance lowest ≡ read (kernelInUse k) p spot lowest (laneFactors (k .n) after l)
+  unfolding read
+  lane-read spot variance lowest v = rw (v, lane-sum)
+
+  lane-step : (y g spot variance lowest : Float) → y ≡ root binary64 (getD (s .variance) l nan) → getD forcing l nan ≡ forcingOf p (rates .dt) (getD (s .z) l nan) (diffusionOf (rates .«sqrt_dt») y g) → spot ≡ plus (getD (s .spot) l nan) (times (getD (s .spot) l nan) (diffusionOf (rates .«sqrt_dt») y g)) → variance ≡ varianceAt p (getD z l nan) → lowest ≡ smaller (getD (s .lowest) l nan) spot
+      → lane-with spot variance lowest ≡ step (kernelInUse k) p (laneOf (k .n) s before l) g (rates .dt) (rates .«sqrt_dt»)
   unfolding step
-  lane-step y g spot variance e f q v =
-      lane-read spot variance v
-      ∙ ap (read (kernelInUse k) p spot) (lane-moved ∙ ap (λ (x : Float). moved (kernelInUse k) (laneFactors (k .n) before l) x (rates .dt)) f)
-      ∙ rw (q, e)
+  lane-step y g spot variance lowest e f q v b =
+      lane-read spot variance lowest v
+      ∙ ap (read (kernelInUse k) p spot lowest) (lane-moved ∙ ap (λ (x : Float). moved (kernelInUse k) (laneFactors (k .n) before l) x (rates .dt)) f)
+      ∙ rw (b, q, e)
 
 pub lanes-stepped : (roots : List Float) (k : Kernel) (p : Params) (s : Lanes) (g : List Float) (rates : Rates) (before after : List Float) (next : Lanes) (forcing : List Float)
     → RatesOf k (rates .dt) (rates .«sqrt_dt») rates
@@ -108,9 +119,10 @@ pub lanes-stepped : (roots : List Float) (k : Kernel) (p : Params) (s : Lanes) (
     → ((l : ℕ) → l < 4 → getD forcing l nan ≡ forcingOf p (rates .dt) (getD (s .z) l nan) (diffusionOf (rates .«sqrt_dt») (getD roots l nan) (getD g l nan)))
     → ((l : ℕ) → l < 4 → getD (next .spot) l nan ≡ plus (getD (s .spot) l nan) (times (getD (s .spot) l nan) (diffusionOf (rates .«sqrt_dt») (getD roots l nan) (getD g l nan))))
     → ((l : ℕ) → l < 4 → getD (next .variance) l nan ≡ varianceAt p (getD (next .z) l nan))
+    → ((l : ℕ) → l < 4 → getD (next .lowest) l nan ≡ smaller (getD (s .lowest) l nan) (getD (next .spot) l nan))
     → LanesStepped roots k p s g rates before after next
-lanes-stepped roots k p s g rates before after next forcing own m f q v =
+lanes-stepped roots k p s g rates before after next forcing own m f q v b =
     record {
       long = m .long;
-      lane = λ l h e. lane-step k p s rates forcing before after (next .z) own m l h (getD roots l nan) (getD g l nan) _ _ e (f l h) (q l h) (v l h);
+      lane = λ l h e. lane-step k p s rates forcing before after (next .z) own m l h (getD roots l nan) (getD g l nan) _ _ _ e (f l h) (q l h) (v l h) (b l h);
     }

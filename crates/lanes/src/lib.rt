@@ -11,11 +11,13 @@ mod roots;
 pub mod rows;
 pub mod scheme;
 
-// Four states but for their factors: a path's spot, z and variance are in one place of each.
+// Four states but for their factors: a path's spot, z, variance and lowest spot are in one place of
+// each.
 pub struct Lanes {
     pub spot: [f64; 4],
     pub z: [f64; 4],
     pub variance: [f64; 4],
+    pub lowest: [f64; 4],
 }
 
 // What a step in every lane gives, and whether the roots that it took were seen to be the roots of
@@ -33,6 +35,7 @@ pub fn all_at(s: State) -> Lanes
         spot: [s.spot; 4],
         z: [s.z; 4],
         variance: [s.variance; 4],
+        lowest: [s.lowest; 4],
     }
 }
 

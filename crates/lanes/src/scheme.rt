@@ -1,7 +1,9 @@
 // One step of the scheme in every lane.
 ghost use mathlib.Core.Path.{_≡_};
-ghost use Prim.Native.Nat.{_≤_};
-ghost use lib.ListN.{length};
+ghost use Prim.Native.Nat.{ℕ, _≤_, _<_};
+ghost use lib.ListN.{length, getD};
+ghost use lib.Ieee.{nan};
+ghost use Rattle.numeric.specs.Double.{smaller};
 ghost use Rattle.model.specs.Inner.Rates.{RatesOf};
 ghost use Rattle.lanes.specs.Inner.Lanes.{LanesMoved, LanesStepped, StepTried};
 use crate::Lanes;
@@ -38,6 +40,19 @@ fn move_factors(
     z
 }
 
+// The lower of two spots, in each lane.
+fn lower_of(x: [f64; 4], y: [f64; 4]) -> [f64; 4]
+    ensures { λ r. ⌜ ((l : ℕ) → l < 4
+        → getD r l nan ≡ smaller (getD x l nan) (getD y l nan)) ⌝ }
+{
+    [
+        numeric::min(x[0], y[0]),
+        numeric::min(x[1], y[1]),
+        numeric::min(x[2], y[2]),
+        numeric::min(x[3], y[3]),
+    ]
+}
+
 // The step with these roots, on the draws g.
 fn step_with(
     roots: [f64; 4],
@@ -55,6 +70,7 @@ fn step_with(
 {
     let old_spot = s.spot;
     let old_z = s.z;
+    let old_lowest = s.lowest;
     let mut spot = [0.0; 4];
     let mut forcing = [0.0; 4];
     let mut l: usize = 0;
@@ -77,6 +93,7 @@ fn step_with(
         spot: spot,
         z: z,
         variance: variance,
+        lowest: lower_of(old_lowest, spot),
     }
 }
 

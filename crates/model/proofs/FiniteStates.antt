@@ -1,5 +1,6 @@
 -- States stay finite and the variance at least c: a finite z has finite factors, adding what is not
--- negative to c gives no less than c, and a start of bounded doubles is finite. Assumes nothing.
+-- negative to c gives no less than c, the smaller of two finite spots is finite, and a start of
+-- bounded doubles is finite. Assumes nothing.
 use mathlib.Core.Path.{_≡_, refl, sym, ap, _∙_, subst}
 use mathlib.Core.Bool.{Bool, true, false, and-eq-true-iff}
 use mathlib.Core.List.{List}
@@ -9,7 +10,7 @@ use native.Mathlib.Nat.{le-trans, le-of-eq, mul-one, one-mul}
 use native.Mathlib.Omega.{arith}
 use lib.IntN.{pos, negsuc}
 use lib.ListN.{getD}
-use lib.Ieee.{Float, nan, inf, fin, binary64, fits, le, up, down}
+use lib.Ieee.{Float, nan, inf, fin, le, up, down}
 use Rattle.numeric.specs.Double.{minus, times, magnitude, finite}
 use Rattle.refusal.specs.declared.Quantity.{Quantity}
 use Rattle.refusal.specs.declared.Quantity.the-variants.{Spot, Z, Variance}
@@ -23,6 +24,7 @@ use Rattle.model.specs.Inner.Admitted.{Converted, Admitted}
 use Rattle.model.proofs.First.{split}
 use Rattle.numeric.proofs.Finite.{never, sign, plus-finite, times-finite}
 use Rattle.numeric.proofs.Order.{le→ordered}
+use Rattle.numeric.proofs.Minimum.{smaller-finite}
 use Rattle.numeric.proofs.Monotone.{variance-ge}
 use Rattle.numeric.proofs.Bounds.{Within, within-mono, minus-within, zero-within, dot-within, variance-within, range-within}
 
@@ -111,19 +113,21 @@ module _ (m : Simulation) (ok : Admitted m) where
   a-sign = no-sign (m .params .a) (converted-within (ok .params .a) .is-finite) (ok .params .a-not-negative)
 
   -- a state that is read off its factors
-  read-sound : (spot : Float) (factors : List Float) → finiteness (read (m .kernel) (m .params) spot factors) ≡ Finite
-      → Sound m (read (m .kernel) (m .params) spot factors)
+  read-sound : (spot lowest : Float) (factors : List Float) → finite lowest ≡ true
+      → finiteness (read (m .kernel) (m .params) spot lowest factors) ≡ Finite
+      → Sound m (read (m .kernel) (m .params) spot lowest factors)
   unfolding read varianceAt
-  read-sound spot factors f =
+  read-sound spot lowest factors l f =
       let k = m .kernel in
       let p = m .params in
-      let parts = finite-parts (read k p spot factors) f in
+      let parts = finite-parts (read k p spot lowest factors) f in
       let z = weightedSum (k .weights) factors (k .n) in
       record {
         spot = parts .0;
         z = parts .1;
         variance = parts .2;
         factor = sum-factors (k .weights) factors (k .n) (parts .1);
+        lowest = l;
         at-least-c = variance-ge (p .a) (minus z (p .b)) (p .c) a-sign (ok .params .c .double) (parts .2);
       }
 
@@ -134,5 +138,11 @@ module _ (w : Walk) (ok : Admitted (w .simulation)) where
   unfolding stateAfter step
   walk-sound zero h =
       subst (λ (s : State). Sound (w .simulation) s) (sym (ok .start-read))
-      (read-sound (w .simulation) ok _ _ (ap finiteness (sym (ok .start-read)) ∙ start-finite (w .simulation) ok))
-  walk-sound (suc k) h = read-sound (w .simulation) ok _ _ (h (suc k) (omega arith) (omega arith))
+      (read-sound (w .simulation) ok _ _ _ (finite-parts _ (start-finite (w .simulation) ok) .0)
+      (ap finiteness (sym (ok .start-read)) ∙ start-finite (w .simulation) ok))
+  walk-sound (suc k) h =
+      let now = h (suc k) (omega arith) (omega arith) in
+      read-sound (w .simulation) ok _ _ _
+      (smaller-finite (stateAfter w k .lowest) (stateAfter w (suc k) .spot)
+      (walk-sound k (λ j l n. h j l (omega arith)) .lowest) (finite-parts _ now .0))
+      now

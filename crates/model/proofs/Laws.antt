@@ -6,7 +6,7 @@ use native.Mathlib.Omega.{arith}
 use lib.ListN.{length, getD, take, List·getD-eq-default}
 use lib.Seq.{getD-take}
 use lib.Ieee.{Float, nan, binary64, neg}
-use Rattle.numeric.specs.Double.{plus, times, one}
+use Rattle.numeric.specs.Double.{plus, times, one, smaller}
 use Rattle.numeric.proofs.Tables.{take-is-tabulate}
 use Rattle.numeric.specs.Root.{root}
 use Rattle.model.specs.declared.Kernel.{Kernel}
@@ -25,9 +25,9 @@ sum-take weights factors n (suc k) h =
     rw (sum-take weights factors n k (omega arith), getD-take n weights k nan h, getD-take n factors k nan h)
 
 -- what is read off the first n factors
-pub read-take : (k : Kernel) (p : Params) (spot z variance : Float) (factors : List Float) → z ≡ weightedSum (k .weights) factors (k .n) → variance ≡ varianceAt p z → _≡_ {A = State} (record { spot = spot; z = z; variance = variance; factors = take (k .n) factors }) (read (kernelInUse k) p spot (take (k .n) factors))
+pub read-take : (k : Kernel) (p : Params) (spot lowest z variance : Float) (factors : List Float) → z ≡ weightedSum (k .weights) factors (k .n) → variance ≡ varianceAt p z → _≡_ {A = State} (record { spot = spot; z = z; variance = variance; factors = take (k .n) factors; lowest = lowest }) (read (kernelInUse k) p spot lowest (take (k .n) factors))
 unfolding read
-read-take k p spot z variance factors e v =
+read-take k p spot lowest z variance factors e v =
     let sum : weightedSum (take (k .n) (k .weights)) (take (k .n) factors) (k .n) ≡ z = sum-take (k .weights) factors (k .n) (k .n) (omega arith) ∙ sym e in
     rw (sum, v)
 
@@ -59,8 +59,15 @@ module _ (k : Kernel) (p : Params) (s : State) (g : Float) (r : Rates) (next : L
   abbrev forcing : Float → Float
   forcing y = plus (times (times (neg (p .lambda)) (s .z)) (r .dt)) (times (p .eta) (diffusion y))
 
-  pub step-take : (y : Float) → y ≡ root binary64 (s .variance) → Moved (k .n) (s .factors) (forcing y) (r .divisors) next → read (kernelInUse k) p (plus (s .spot) (times (s .spot) (diffusion y))) (take (k .n) next) ≡ step (kernelInUse k) p (stateInUse (k .n) s) g (r .dt) (r .«sqrt_dt»)
+  -- the state with that root, where the next factors are these
+  abbrev rooted : Float → List Float → State
+  rooted y factors =
+      let spot = plus (s .spot) (times (s .spot) (diffusion y)) in
+      read (kernelInUse k) p spot (smaller (s .lowest) spot) factors
+
+  pub step-take : (y lowest : Float) → y ≡ root binary64 (s .variance) → lowest ≡ smaller (s .lowest) (plus (s .spot) (times (s .spot) (diffusion y))) → Moved (k .n) (s .factors) (forcing y) (r .divisors) next → read (kernelInUse k) p (plus (s .spot) (times (s .spot) (diffusion y))) lowest (take (k .n) next) ≡ step (kernelInUse k) p (stateInUse (k .n) s) g (r .dt) (r .«sqrt_dt»)
   unfolding step
-  step-take y e m =
-      ap (read (kernelInUse k) p (plus (s .spot) (times (s .spot) (diffusion y)))) (moved-take k (s .factors) next (forcing y) r few rates m)
-      ∙ ap (λ (y : Float). read (kernelInUse k) p (plus (s .spot) (times (s .spot) (diffusion y))) (moved (kernelInUse k) (take (k .n) (s .factors)) (forcing y) (r .dt))) e
+  step-take y lowest e l m =
+      ap (λ (lowest : Float). read (kernelInUse k) p (plus (s .spot) (times (s .spot) (diffusion y))) lowest (take (k .n) next)) l
+      ∙ ap (rooted y) (moved-take k (s .factors) next (forcing y) r few rates m)
+      ∙ ap (λ (y : Float). rooted y (moved (kernelInUse k) (take (k .n) (s .factors)) (forcing y) (r .dt))) e

@@ -34,7 +34,10 @@ unfoldable pub factorsOf : ℕ → List Decimal → List Float
 unfolding tabulate
 factorsOf n factors = tabulate n (λ i. value (getD factors i zeroDecimal))
 
--- Rule 5.8: the state with the spot and the initial factors, as converted
+-- Rule 5.8: the state with the spot and the initial factors, as converted; its lowest spot is its
+-- spot
 unfoldable pub startOf : Kernel → Model → State
 unfolding read factorsOf
-startOf k p = read k (paramsOf p) (value (p .spot)) (factorsOf (k .n) (p .factors))
+startOf k p =
+    let spot = value (p .spot) in
+    read k (paramsOf p) spot spot (factorsOf (k .n) (p .factors))

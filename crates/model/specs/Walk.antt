@@ -2,7 +2,7 @@
 use mathlib.Core.Path.{_≡_}
 use mathlib.Core.Bool.{true}
 use mathlib.Core.Option.{Option, none, some}
-use Prim.Native.Nat.{ℕ, zero, suc, _<_}
+use Prim.Native.Nat.{ℕ, zero, suc, _≤_, _<_}
 use lib.ListN.{getD}
 use lib.Ieee.{Float, nan, le}
 use Rattle.numeric.specs.Double.{finite}
@@ -49,10 +49,19 @@ abbrev pub unlessStopped : {A : Type 0} → Option A → Float → Float → Flo
 unlessStopped none written lent = written
 unlessStopped (some stop) written lent = lent
 
+-- Rule 7.7: the lowest spot after k steps is the spot at some point from the start to step k, and
+-- at most the spot at every such point
+pub record LowestSpot (w : Walk) (k : ℕ) : Type 0 where
+  pub at : ℕ
+  pub is-point : at ≤ k
+  pub is-spot : stateAfter w k .lowest ≡ stateAfter w at .spot
+  pub at-most : (j : ℕ) → j ≤ k → le (stateAfter w k .lowest) (stateAfter w j .spot) ≡ true
+
 -- Rule 18.6: what is claimed of every state of a plain walk but the one it stops with
 pub record Sound (m : Simulation) (s : State) : Type 0 where
   pub spot : finite (s .spot) ≡ true
   pub z : finite (s .z) ≡ true
   pub variance : finite (s .variance) ≡ true
   pub factor : (i : ℕ) → i < m .kernel .n → finite (getD (s .factors) i nan) ≡ true
+  pub lowest : finite (s .lowest) ≡ true
   pub at-least-c : le (m .params .c) (s .variance) ≡ true

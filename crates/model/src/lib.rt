@@ -34,12 +34,14 @@ pub struct Params {
     pub eta: f64,
 }
 
-// The state of a path: spot, z, variance and its factors, in the first n places.
+// The state of a path: spot, z, variance, its factors, in the first n places, and the lowest spot
+// so far, the start's included.
 pub struct State {
     pub spot: f64,
     pub z: f64,
     pub variance: f64,
     pub factors: [f64; 10],
+    pub lowest: f64,
 }
 
 // One segment of a schedule as given: `steps` steps of `dt` years.

@@ -35,10 +35,11 @@ pub fn variance_at(p: Params, z: f64) -> f64
     p.a * shifted * shifted + p.c
 }
 
-// The state with this spot and these factors.
-pub fn read(k: Kernel, p: Params, spot: f64, factors: [f64; 10]) -> State
+// The state with this spot, this lowest spot and these factors.
+pub fn read(k: Kernel, p: Params, spot: f64, lowest: f64, factors: [f64; 10]) -> State
     requires { ⌜ k .n ≤ 10 ⌝ }
-    ensures { λ r. ⌜ stateInUse (k .n) r ≡ read (kernelInUse k) p spot (take (k .n) factors) ⌝ }
+    ensures { λ r. ⌜ stateInUse (k .n) r
+        ≡ read (kernelInUse k) p spot lowest (take (k .n) factors) ⌝ }
 {
     let weights = k.weights;
     let z = weighted_sum(k.n, &weights[..], &factors[..]);
@@ -48,6 +49,7 @@ pub fn read(k: Kernel, p: Params, spot: f64, factors: [f64; 10]) -> State
         z: z,
         variance: variance,
         factors: factors,
+        lowest: lowest,
     }
 }
 
@@ -109,7 +111,8 @@ pub fn step(k: Kernel, p: Params, s: State, g: f64, rates: Rates) -> State
     let factors = s.factors;
     let divisors = rates.divisors;
     let next = move_factors(k.n, &factors[..], forcing, &divisors[..]);
-    read(k, p, s.spot + s.spot * diffusion, next)
+    let spot = s.spot + s.spot * diffusion;
+    read(k, p, spot, numeric::min(s.lowest, spot), next)
 }
 
 // Every weight is above zero, so a factor that is not finite leaves z not finite.

@@ -16,4 +16,5 @@ pub mod Monotone
 pub mod Bounds
 pub mod Tables
 pub mod Above
+pub mod Minimum
 pub mod Normal

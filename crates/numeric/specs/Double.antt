@@ -1,6 +1,6 @@
 -- Doubles are the values of IEEE 754's binary64, as `lib.Ieee` defines them. Short names for their
--- operations, rounded once each, for their constants, and for Rust's `is_finite`, `abs` and `max`.
--- Definitions only.
+-- operations, rounded once each, for their constants, and for Rust's `is_finite`, `abs`, `max` and
+-- `min`. Definitions only.
 use mathlib.Core.Bool.{true, false, cond}
 use lib.IntN.{pos}
 use lib.Ieee.{Float, nan, inf, fin, binary64, add, sub, mul, div, lt}
@@ -56,3 +56,9 @@ positivePart v = cond (lt plusZero v) v plusZero
 unfoldable pub larger : Float → Float → Float
 unfolding lt
 larger x y = cond (lt x y) y x
+
+-- Rule 7.7: the smaller of a running minimum x and the next number y: y where it is below x, and
+-- elsewhere x. A NaN is below nothing, so that it is passed over.
+unfoldable pub smaller : Float → Float → Float
+unfolding lt
+smaller x y = cond (lt y x) y x

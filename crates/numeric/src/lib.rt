@@ -1,9 +1,10 @@
 // What the layers above need of a double beyond its operators: the square root, and Rust's
-// is_finite, abs and max.
+// is_finite, abs, max and min.
 ghost use mathlib.Core.Path.{_≡_};
 ghost use mathlib.Core.Bool.{true};
 ghost use lib.Ieee.{binary64};
-ghost use Rattle.numeric.specs.Double.{finite, magnitude, positivePart, larger};
+ghost use Rattle.numeric.specs.Double.{finite, magnitude, positivePart};
+ghost use Rattle.numeric.specs.Double.{larger, smaller};
 ghost use Rattle.numeric.specs.Inner.Bits.{bitsOf};
 ghost use Rattle.numeric.specs.Correct.{RootIsNearest};
 ghost use Rattle.numeric.specs.Root.{root};
@@ -94,4 +95,11 @@ pub fn max(x: f64, y: f64) -> f64
     ensures { λ r. ⌜ r ≡ larger x y ⌝ }
 {
     if x < y { y } else { x }
+}
+
+// Rust's x.min(y), as a running minimum x has it, which is no NaN: a NaN for y is passed over.
+pub fn min(x: f64, y: f64) -> f64
+    ensures { λ r. ⌜ r ≡ smaller x y ⌝ }
+{
+    if y < x { y } else { x }
 }

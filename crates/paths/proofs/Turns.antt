@@ -1,23 +1,22 @@
 -- The two loops' invariants, over any batch, and what each turn does to them. Assumes nothing.
 use mathlib.Core.Path.{_≡_, refl, sym, _∙_, ap, subst}
-use mathlib.Core.Bool.{Bool, false, cond, _||_}
 use mathlib.Core.Option.{none, some}
-use mathlib.Core.List.{List}
+use mathlib.Core.List.{List, [], _∷_}
 use mathlib.Core.Logic.{⊎-elim}
-use Prim.Native.Nat.{ℕ, suc, pred, _+_, _*_, _-_, _/_, _<_, _≤_}
-use native.Mathlib.Nat.{suc-mul, zero-mul, add-zero, mul-le-mul, mul-div-cancel}
+use Prim.Native.Nat.{ℕ, suc, pred, _+_, _*_, _-_, _<_, _≤_}
+use native.Mathlib.Nat.{suc-mul, zero-mul, add-zero, mul-le-mul}
 use native.Mathlib.Numerals.{add-one}
 use native.Mathlib.Omega.{arith}
-use lib.Ieee.{Float, nan, le}
+use lib.Ieee.{Float, nan}
 use lib.ListN.{getD, set, take, drop, length, length-set, length-drop}
 use lib.Seq.{getD-take, getD-drop, length-take-le}
-use Rattle.numeric.specs.Double.{plusZero}
 use Rattle.refusal.specs.declared.Quantity.{Quantity}
 use Rattle.model.specs.declared.State.{State}
 use Rattle.model.specs.declared.Finiteness.the-variants.{Finite, NonFinite}
 use Rattle.model.specs.Step.{step, finiteness}
 use Rattle.model.specs.TimeGrid.{lastStep, dtAt, sqrtDtAt}
 use Rattle.model.specs.Inner.Laid.{Laid}
+use Rattle.model.specs.Inner.Admitted.{Admitted}
 use Rattle.model.specs.First.{firstSome}
 use Rattle.model.specs.Walk.{stateAfter, stopWithin}
 use Rattle.model.proofs.First.{split}
@@ -28,21 +27,20 @@ use Rattle.estimates.specs.declared.Payoff.{Payoff}
 use Rattle.estimates.specs.declared.Tally.{Tally}
 use Rattle.estimates.specs.Moments.{noPaths, tallyOf}
 use Rattle.paths.specs.declared.Run.the-variants.{Done, NonFinite as Stopped}
-use Rattle.walks.specs.Batch.{Batch, walkOf, nonPositiveBy, nonPositivePaths, observation}
+use Rattle.walks.specs.Batch.{Batch, walkOf, nonPositivePaths, observation}
 use Rattle.paths.specs.Run.{runStop, entryAfter}
-use Rattle.paths.specs.Inner.Handed.{lastObservation, withRows, underlyingIn, runAnswer}
-use Rattle.walks.proofs.Flags.{one-most}
+use Rattle.tally.specs.Inner.Rows.{lastObservation, withRows, fallenAmong, lowestIn, tallyIn}
+use Rattle.paths.specs.Inner.Handed.{runAnswer}
 use Rattle.walks.proofs.Cells.{row-below, row-last, Filled, filled-none, filled-more}
-use Rattle.paths.proofs.Tallying.{rows-tallied}
+use Rattle.tally.proofs.Tallying.{rows-tallied, fallen-few, fallen-more}
 use Rattle.paths.proofs.Stops.{runStopAt, run-goes, run-stops, run-none, run-path, entry-new, entry-run, entry-path}
 
 -- at the head of the inner loop: `at` steps of path `path` + 1 are walked, and its row is filled up
 -- to `segment`
-pub record Inner (b : Batch) (path : ℕ) (seen₀ seen : List Float) (steps segment at : ℕ) (s : State) (low : Bool) : Type 0 where
+pub record Inner (b : Batch) (path : ℕ) (seen₀ seen : List Float) (steps segment at : ℕ) (s : State) : Type 0 where
   pub most : at ≤ b .simulation .grid .total
   pub reached : Reached (b .simulation .grid) segment at
   pub state : s ≡ stateAfter (walkOf b (suc path)) at
-  pub fallen : low ≡ nonPositiveBy (walkOf b (suc path)) at
   pub going : stopWithin (walkOf b (suc path)) at ≡ none
   pub counted : steps ≡ path * b .simulation .grid .total + at
   pub long : length seen ≡ b .paths * b .simulation .grid .count
@@ -57,7 +55,7 @@ pub record Outer (b : Batch) (payoff : Payoff) (lent seen : List Float) (steps l
   pub counted : steps ≡ path * b .simulation .grid .total
   pub fallen : low ≡ nonPositivePaths b path
   pub few : low ≤ path
-  pub tallied : sums ≡ tallyOf payoff (underlyingIn b) path
+  pub tallied : sums ≡ tallyIn b payoff path
   pub long : length seen ≡ b .paths * b .simulation .grid .count
   pub done : (q j : ℕ) → q < path → j < b .simulation .grid .count → getD seen (q * b .simulation .grid .count + j) nan ≡ observation b (suc q) (suc j)
   pub rest : (x : ℕ) → path * b .simulation .grid .count ≤ x → getD seen x nan ≡ getD lent x nan
@@ -72,7 +70,7 @@ pub record Small (paths path total count segment at : ℕ) : Type 0 where
   pub at-small : at < 4096
   pub segment-small : segment < 64
 
-module _ {b : Batch} (ok : Laid (b .simulation .grid)) {path : ℕ} {seen₀ seen : List Float} {steps segment at : ℕ} {s : State} {low : Bool} (h : Inner b path seen₀ seen steps segment at s low) where
+module _ {b : Batch} (ok : Laid (b .simulation .grid)) {path : ℕ} {seen₀ seen : List Float} {steps segment at : ℕ} {s : State} (h : Inner b path seen₀ seen steps segment at s) where
   pub small : b .paths ≤ 65536 → path < b .paths → at < b .simulation .grid .total → Small (b .paths) path (b .simulation .grid .total) (b .simulation .grid .count) segment at
   small f p k =
       let g : segment < b .simulation .grid .count = reached-open (b .simulation .grid) ok segment at (h .reached) k in
@@ -91,23 +89,18 @@ module _ {b : Batch} (ok : Laid (b .simulation .grid)) {path : ℕ} {seen₀ see
     unfolding stateAfter
     next-state = e ∙ rw (h .state)
 
-    module _ (f : finiteness s′ ≡ Finite) {low′ : Bool} (l : low′ ≡ (low || le (s′ .spot) plusZero)) where
+    module _ (f : finiteness s′ ≡ Finite) where
       next-going : stopWithin (walkOf b (suc path)) (at + 1) ≡ none
       next-going = rw add-one (stop-goes (walkOf b (suc path)) at (h .going) (ap finiteness (sym next-state) ∙ f))
 
-      next-low : low′ ≡ nonPositiveBy (walkOf b (suc path)) (at + 1)
-      unfolding nonPositiveBy
-      next-low = rw add-one (l ∙ rw (h .fallen, next-state))
-
       -- a step that ends no segment
-      pub turn-on : (at + 1 ≡ lastStep (b .simulation .grid) (suc segment) → ⊥) → Inner b path seen₀ seen (steps + 1) segment (at + 1) s′ low′
+      pub turn-on : (at + 1 ≡ lastStep (b .simulation .grid) (suc segment) → ⊥) → Inner b path seen₀ seen (steps + 1) segment (at + 1) s′
       turn-on ne =
           let here : segment < b .simulation .grid .count = reached-open (b .simulation .grid) ok segment at (h .reached) k in
           record {
             most = omega arith;
             reached = reached-on (b .simulation .grid) ok segment at (h .reached) here ne;
             state = rw add-one next-state;
-            fallen = next-low;
             going = next-going;
             counted = omega arith;
             long = h .long;
@@ -115,7 +108,7 @@ module _ {b : Batch} (ok : Laid (b .simulation .grid)) {path : ℕ} {seen₀ see
           }
 
       -- a step that ends a segment, whose entry is written
-      pub turn-write : path < b .paths → at + 1 ≡ lastStep (b .simulation .grid) (suc segment) → {v : Float} → v ≡ b .observe s′ → Inner b path seen₀ (set seen (path * b .simulation .grid .count + segment) v) (steps + 1) (segment + 1) (at + 1) s′ low′
+      pub turn-write : path < b .paths → at + 1 ≡ lastStep (b .simulation .grid) (suc segment) → {v : Float} → v ≡ b .observe s′ → Inner b path seen₀ (set seen (path * b .simulation .grid .count + segment) v) (steps + 1) (segment + 1) (at + 1) s′
       unfolding observation
       turn-write p q {v} w =
           let here : segment < b .simulation .grid .count = reached-open (b .simulation .grid) ok segment at (h .reached) k in
@@ -124,7 +117,6 @@ module _ {b : Batch} (ok : Laid (b .simulation .grid)) {path : ℕ} {seen₀ see
             most = omega arith;
             reached = reached-next (b .simulation .grid) ok segment at (h .reached) here q;
             state = rw add-one next-state;
-            fallen = next-low;
             going = next-going;
             counted = omega arith;
             long = rw length-set (h .long);
@@ -135,14 +127,13 @@ module _ {b : Batch} (ok : Laid (b .simulation .grid)) {path : ℕ} {seen₀ see
           }
 
 -- the inner loop begins
-pub turn-first : {b : Batch} → Laid (b .simulation .grid) → {path : ℕ} {seen : List Float} {steps : ℕ} → steps ≡ path * b .simulation .grid .total → length seen ≡ b .paths * b .simulation .grid .count → Inner b path seen seen steps 0 0 (b .simulation .start) false
-unfolding stateAfter nonPositiveBy stopWithin firstSome
+pub turn-first : {b : Batch} → Laid (b .simulation .grid) → {path : ℕ} {seen : List Float} {steps : ℕ} → steps ≡ path * b .simulation .grid .total → length seen ≡ b .paths * b .simulation .grid .count → Inner b path seen seen steps 0 0 (b .simulation .start)
+unfolding stateAfter stopWithin firstSome
 turn-first {b} ok {path} {seen} e g =
     record {
       most = omega arith;
       reached = reached-none (b .simulation .grid) ok;
       state = refl;
-      fallen = refl;
       going = refl;
       counted = omega arith;
       long = g;
@@ -172,7 +163,7 @@ module _ {b : Batch} {payoff : Payoff} (ok : Laid (b .simulation .grid)) {lent :
         rest = λ x k. refl;
       }
 
-  module _ {seen₀ : List Float} {steps₀ np path : ℕ} {sums : Tally} (o : Outer b payoff lent seen₀ steps₀ np path sums) (p : path < b .paths) {seen : List Float} {steps segment at : ℕ} {s : State} {low : Bool} (h : Inner b path seen₀ seen steps segment at s low) where
+  module _ {seen₀ : List Float} {steps₀ np path : ℕ} {sums : Tally} (o : Outer b payoff lent seen₀ steps₀ np path sums) (p : path < b .paths) {seen : List Float} {steps segment at : ℕ} {s : State} (h : Inner b path seen₀ seen steps segment at s) where
     -- the rows of the paths before are kept
     kept : (q j : ℕ) → q < path → j < b .simulation .grid .count → getD seen (q * b .simulation .grid .count + j) nan ≡ observation b (suc q) (suc j)
     kept q j k l = h .filled .before _ (row-below q path (b .simulation .grid .count) j k l) ∙ o .done q j k l
@@ -183,45 +174,63 @@ module _ {b : Batch} {payoff : Payoff} (ok : Laid (b .simulation .grid)) {lent :
     row-done k j l = h .filled .new j (omega (arith, reached-shut (b .simulation .grid) ok segment at (h .reached) k))
 
     abbrev row : List Float
-    row = take (path * b .simulation .grid .count + b .simulation .grid .count - path * b .simulation .grid .count) (drop (path * b .simulation .grid .count) seen)
+    row = take (length seen - path * b .simulation .grid .count) (drop (path * b .simulation .grid .count) seen)
 
     row-fits : path * b .simulation .grid .count + b .simulation .grid .count ≤ length seen
     row-fits = rw (h .long) (row-last path (b .paths) (b .simulation .grid .count) (b .simulation .grid .count) p (omega arith))
 
-    -- what it shows the payoff is added
-    pub path-tallied : b .simulation .grid .total ≤ at → {r : Tally} → r ≡ withRows sums payoff (b .observed) row (b .simulation .grid .count) (length row / b .simulation .grid .count) → r ≡ tallyOf payoff (underlyingIn b) (path + 1)
-    path-tallied k e =
-        let count = b .simulation .grid .count in
-        let base = path * count in
-        let long : length row ≡ 1 * count = length-take-le (base + count - base) (drop base seen) (omega (arith, length-drop base seen, row-fits)) ∙ omega arith in
-        let last : suc (pred count) ≡ count = omega (arith, ok .some) in
-        let shown : lastObservation row count 1 ≡ observation b (suc path) count =
-        ap (λ (x : ℕ). getD row x nan) (omega (arith, zero-mul count))
-        ∙ getD-take (base + count - base) (drop base seen) (pred count) nan (omega (arith, ok .some))
-        ∙ getD-drop base seen (pred count) nan ∙ row-done k (pred count) (omega (arith, ok .some)) ∙ ap (observation b (suc path)) last in
-        e ∙ ap (withRows sums payoff (b .observed) row count) (ap (_/ count) long ∙ mul-div-cancel 1 (ok .some))
-        ∙ rows-tallied b payoff path row 1 (o .tallied) (λ l m. let z : l ≡ 0 = omega arith in rw (z, add-zero path) shown)
+    pub row-long : 1 * b .simulation .grid .count ≤ length row
+    row-long =
+        let base = path * b .simulation .grid .count in
+        omega (arith, length-take-le (length seen - base) (drop base seen) (omega (arith, length-drop base seen)), row-fits)
 
-    pub path-next : b .simulation .grid .total ≤ at → {np′ : ℕ} → np′ ≡ np + cond low 1 0 → {sums′ : Tally} → sums′ ≡ tallyOf payoff (underlyingIn b) (path + 1) → Outer b payoff lent seen steps np′ (path + 1) sums′
-    unfolding nonPositivePaths
-    path-next k e sum =
-        let t : at ≡ b .simulation .grid .total = omega (arith, h .most) in
-        let g : segment ≡ b .simulation .grid .count = reached-shut (b .simulation .grid) ok segment at (h .reached) k in
-        let whole : (path + 1) * b .simulation .grid .count ≡ path * b .simulation .grid .count + b .simulation .grid .count = rw add-one (suc-mul path (b .simulation .grid .count)) in
-        record {
-          most = omega arith;
-          going = rw add-one (run-goes b path (o .going) (subst (λ (n : ℕ). stopWithin (walkOf b (suc path)) n ≡ none) t (h .going)));
-          counted = rw add-one (omega (arith, suc-mul path (b .simulation .grid .total)));
-          fallen = rw add-one (e ∙ rw (o .fallen, h .fallen ∙ ap (nonPositiveBy (walkOf b (suc path))) t));
-          few = omega (arith, one-most low);
-          tallied = sum;
-          long = h .long;
-          done = λ q j l m.
-              ⊎-elim (λ (z : q < path). kept q j z m)
-              (λ (z : path ≤ q). let e′ : q ≡ path = omega arith in rw e′ (h .filled .new j (omega arith)))
-              (split q path);
-          rest = λ x l. h .filled .after x (omega arith) ∙ o .rest x (omega arith);
-        }
+    -- its lowest spot
+    module _ (k : b .simulation .grid .total ≤ at) where
+      at-end : at ≡ b .simulation .grid .total
+      at-end = omega (arith, h .most)
+
+      stays : stopWithin (walkOf b (suc path)) (b .simulation .grid .total) ≡ none
+      stays = subst (λ (n : ℕ). stopWithin (walkOf b (suc path)) n ≡ none) at-end (h .going)
+
+      own-lowest : (l : ℕ) → l < 1 → getD (s .lowest ∷ []) l nan ≡ lowestIn b (suc (path + l))
+      own-lowest l m =
+          let z : l ≡ 0 = omega arith in
+          rw (z, add-zero path) (ap (λ (x : State). x .lowest) (h .state ∙ ap (stateAfter (walkOf b (suc path))) at-end))
+
+      -- what it shows the payoff is added
+      pub path-tallied : {r : Tally} → r ≡ withRows sums payoff (b .observed) row (b .simulation .grid .count) (s .lowest ∷ []) 1 → r ≡ tallyIn b payoff (path + 1)
+      path-tallied e =
+          let count = b .simulation .grid .count in
+          let last : suc (pred count) ≡ count = omega (arith, ok .some) in
+          let shown : lastObservation row count 1 ≡ observation b (suc path) count =
+          ap (λ (x : ℕ). getD row x nan) (omega (arith, zero-mul count))
+          ∙ getD-take (length seen - path * count) (drop (path * count) seen) (pred count) nan (omega (arith, ok .some, row-fits))
+          ∙ getD-drop (path * count) seen (pred count) nan ∙ row-done k (pred count) (omega (arith, ok .some)) ∙ ap (observation b (suc path)) last in
+          e ∙ rows-tallied b payoff path row (s .lowest ∷ []) 1 (o .tallied) (λ l m. let z : l ≡ 0 = omega arith in rw (z, add-zero path) shown) own-lowest
+
+      -- and it is counted where it is non-positive
+      path-fallen : Admitted (b .simulation) → nonPositivePaths b (path + 1) ≡ nonPositivePaths b path + fallenAmong (s .lowest ∷ []) 1
+      path-fallen admitted =
+          fallen-more b admitted path (s .lowest ∷ []) 1 (λ l m. let z : l ≡ 0 = omega arith in rw (z, add-zero path) stays) own-lowest
+
+      pub path-next : Admitted (b .simulation) → {np′ : ℕ} → np′ ≡ np + fallenAmong (s .lowest ∷ []) 1 → {sums′ : Tally} → sums′ ≡ tallyIn b payoff (path + 1) → Outer b payoff lent seen steps np′ (path + 1) sums′
+      path-next admitted e sum =
+          let g : segment ≡ b .simulation .grid .count = reached-shut (b .simulation .grid) ok segment at (h .reached) k in
+          let whole : (path + 1) * b .simulation .grid .count ≡ path * b .simulation .grid .count + b .simulation .grid .count = rw add-one (suc-mul path (b .simulation .grid .count)) in
+          record {
+            most = omega arith;
+            going = rw add-one (run-goes b path (o .going) stays);
+            counted = rw add-one (omega (arith, suc-mul path (b .simulation .grid .total), at-end));
+            fallen = e ∙ ap (_+ fallenAmong (s .lowest ∷ []) 1) (o .fallen) ∙ sym (path-fallen admitted);
+            few = omega (arith, fallen-few (s .lowest ∷ []) 1);
+            tallied = sum;
+            long = h .long;
+            done = λ q j l m.
+                ⊎-elim (λ (z : q < path). kept q j z m)
+                (λ (z : path ≤ q). let e′ : q ≡ path = omega arith in rw e′ (h .filled .new j (omega arith)))
+                (split q path);
+            rest = λ x l. h .filled .after x (omega arith) ∙ o .rest x (omega arith);
+          }
 
     -- a path that stops
     module _ (k : at < b .simulation .grid .total) {s′ : State} (e : s′ ≡ stateAfter (walkOf b (suc path)) (suc at)) {x : Quantity} (f : finiteness s′ ≡ NonFinite x) where
@@ -274,7 +283,7 @@ module _ {b : Batch} {payoff : Payoff} (ok : Laid (b .simulation .grid)) {lent :
         let goes : runStop b (b .paths) ≡ none = subst (λ (n : ℕ). runStop b n ≡ none) t (o .going) in
         let all : b .paths * b .simulation .grid .total ≡ steps = ap (_* b .simulation .grid .total) (sym t) ∙ sym (o .counted) in
         let falls : nonPositivePaths b (b .paths) ≡ np = ap (nonPositivePaths b) (sym t) ∙ sym (o .fallen) in
-        let sum : tallyOf payoff (underlyingIn b) (b .paths) ≡ sums = ap (tallyOf payoff (underlyingIn b)) (sym t) ∙ sym (o .tallied) in
+        let sum : tallyIn b payoff (b .paths) ≡ sums = ap (tallyIn b payoff) (sym t) ∙ sym (o .tallied) in
         rw (goes, all, falls, sum)
 
     pub entries-done : (q j : ℕ) → q < b .paths → j < b .simulation .grid .count → getD seen (q * b .simulation .grid .count + j) nan ≡ entryAfter b (suc q) (suc j) (getD lent (q * b .simulation .grid .count + j) nan)

@@ -1,9 +1,8 @@
-// The paths of a batch: the path and step loops, their observations and their tally.
+// The paths of a batch: the path and step loops, with their observations and their tally.
 use estimates::Tally;
 use refusal::Refusal;
 
 pub mod loops;
-pub mod tally;
 
 // What the paths of a batch come to where each of their steps is finite.
 pub struct Walked {

@@ -1,16 +1,54 @@
 // The path and step loops.
 ghost use Rattle.walks.specs.Inner.Handed.{batchOf};
-ghost use Rattle.paths.specs.Inner.Handed.{Prepared, BatchRun};
+ghost use Rattle.paths.specs.Inner.Handed.{Prepared, GroupReady, Grouped, BatchRun};
 use crate::Run;
 use crate::Walked;
-use crate::tally;
 use estimates::Payoff;
+use estimates::Tally;
 use estimates::welford;
-use groups::Together;
 use model::Finiteness;
 use model::scheme;
 use refusal::Refusal;
 use walks::Batch;
+
+// What a group of four paths came to: all walked to their ends, of which so many fell to zero or
+// below, and the tally with them; or nothing known, and then nothing of them is written.
+pub enum Group {
+    Walked { fell: u64, tally: Tally },
+    Unsure,
+}
+
+// Paths `path` + 1 to `path` + 4, side by side. Their observations go to their rows, and what they
+// show the payoff is added to the tally.
+fn walk_group(
+    batch: Batch,
+    payoff: Payoff,
+    path: usize,
+    sums: Tally,
+    draws: &[f64],
+    observations: &mut [f64],
+) -> Group
+    requires { ⌜ GroupReady batch payoff path sums (now draws) (now observations) ⌝ }
+    ensures { λ r. ⌜ Grouped (batchOf batch (now (draws .entry))) payoff path
+        (now (observations .entry)) (now (observations .exit)) r ⌝ }
+{
+    let observation = batch.observation;
+    let observed = observation.observed;
+    let simulation = batch.simulation;
+    let sched = simulation.grid;
+    let count = sched.count;
+    let mut rows = [0.0; 256];
+    let four = groups::walk_four(batch, path, draws, &mut rows[..]);
+    if !four.sure {
+        return Group::Unsure;
+    }
+    groups::write_rows(&rows[..4 * count], path * count, observations);
+    let lowest = four.lowest;
+    Group::Walked {
+        fell: tally::fallen(&lowest[..]),
+        tally: tally::with_rows(sums, payoff, observed, &rows[..], count, &lowest[..]),
+    }
+}
 
 // Every path in turn, step by step, up to the first step that is not finite. `observations` has a
 // row a path and a column a segment. Four paths at a time are walked side by side where that is
@@ -45,17 +83,15 @@ pub fn run_paths(batch: Batch, payoff: Payoff, draws: &[f64], observations: &mut
     let mut next_group: usize = 0;
     'paths: while path < paths {
         if next_group <= path && path + 4 <= paths {
-            let mut rows = [0.0; 256];
-            match groups::walk_four(batch, path, draws, &mut rows[..]) {
-                Together::Walked { non_positive: fell } => {
-                    groups::write_rows(&rows[..4 * count], path * count, observations);
-                    sums = tally::with_rows(sums, payoff, observed, &rows[..4 * count], count);
+            match walk_group(batch, payoff, path, sums, draws, observations) {
+                Group::Walked { fell, tally } => {
+                    sums = tally;
                     steps += 4 * (total as u64);
                     non_positive += fell;
                     path += 4;
                     continue 'paths;
                 }
-                Together::Unsure => {
+                Group::Unsure => {
                     next_group = path + 4;
                 }
             }
@@ -64,7 +100,6 @@ pub fn run_paths(batch: Batch, payoff: Payoff, draws: &[f64], observations: &mut
         let mut rates = first;
         let mut segment: usize = 0;
         let mut at: usize = 0;
-        let mut low = false;
         while at < total {
             let g = walks::draw_at(mirrored, draws, total, path, at);
             s = scheme::step(k, p, s, g, rates);
@@ -86,21 +121,17 @@ pub fn run_paths(batch: Batch, payoff: Payoff, draws: &[f64], observations: &mut
                 }
                 Finiteness::Finite => {}
             }
-            if s.spot <= 0.0 {
-                low = true;
-            }
             if at == sched.last[segment] {
                 observations[path * count + segment] = walks::observe(observation, s);
                 segment += 1;
                 rates = scheme::rates_at(k, sched, segment);
             }
         }
-        if low {
-            non_positive += 1;
-        }
         let begin = path * count;
-        let end = begin + count;
-        sums = tally::with_rows(sums, payoff, observed, &observations[begin..end], count);
+        let row = &observations[begin..];
+        let lowest = [s.lowest];
+        non_positive += tally::fallen(&lowest[..]);
+        sums = tally::with_rows(sums, payoff, observed, row, count, &lowest[..]);
         path += 1;
     }
     if path < paths {

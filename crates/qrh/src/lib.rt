@@ -8,6 +8,7 @@ use model::Model;
 use model::Schedule;
 use trace::Tracing;
 use vanilla::Estimate;
+use vanilla::Terms;
 use vix_batch::VixEstimate;
 use vix_batch::VixPayoff;
 use vix_value::Factors;
@@ -21,11 +22,14 @@ ghost use Rattle.decimal.specs.Decimal.{convert, ConvertsToNearest};
 ghost use Rattle.model.specs.Simulation.{given};
 ghost use Rattle.trace.specs.Trace.{tables};
 ghost use Rattle.trace.specs.Call.{traceInputs, TraceAnswered};
+ghost use Rattle.vanilla.specs.declared.Terms.the-variants.{Vanilla};
 ghost use Rattle.vanilla.specs.Call.{vanillaInputs, VanillaAnswered};
 ghost use Rattle.exponentiation.specs.Call.{matrixInputs, ExponentialAnswered};
 ghost use Rattle.vix_value.specs.Call.{vixInputs, VixValueAnswered};
 ghost use Rattle.vix_batch.specs.Call.{vixBatchInputs, VixBatchAnswered};
 ghost use Rattle.qrh.specs.Conversion.{conversion};
+
+pub mod down_and_out;
 
 #[repr(C)]
 pub struct Conversion {
@@ -113,13 +117,16 @@ pub extern "C" fn qrh_vanilla(
 ) -> Estimate
     ensures { λ r. ⌜ VanillaAnswered
         (vanillaInputs (given (now (weights .entry)) (now (discounts .entry)) model schedule)
-        (record { put = put; strike = strike; mirrored = false; paths = paths })
+        (record { terms = Vanilla put strike; mirrored = false; paths = paths })
         (now (draws .entry)))
         (now (observations .entry)) (now (observations .exit)) r ⌝ }
 {
-    let order = vanilla::Order {
+    let terms = Terms::Vanilla {
         put: put,
         strike: strike,
+    };
+    let order = vanilla::Order {
+        terms: terms,
         mirrored: false,
         paths: paths,
     };
@@ -149,13 +156,16 @@ pub extern "C" fn qrh_mirrored(
 ) -> Estimate
     ensures { λ r. ⌜ VanillaAnswered
         (vanillaInputs (given (now (weights .entry)) (now (discounts .entry)) model schedule)
-        (record { put = put; strike = strike; mirrored = true; paths = paths })
+        (record { terms = Vanilla put strike; mirrored = true; paths = paths })
         (now (draws .entry)))
         (now (observations .entry)) (now (observations .exit)) r ⌝ }
 {
-    let order = vanilla::Order {
+    let terms = Terms::Vanilla {
         put: put,
         strike: strike,
+    };
+    let order = vanilla::Order {
+        terms: terms,
         mirrored: true,
         paths: paths,
     };

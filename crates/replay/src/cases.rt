@@ -30,7 +30,7 @@ pub(crate) fn count(file: &[u8]) -> u64 {
 // The place after the case at a place, or the end where it is one of no call.
 fn after_case(file: &[u8], at: usize) -> usize {
     match word(file, after(at, 1)) {
-        1..=8 => after_list(file, at),
+        1..=10 => after_list(file, at),
         _ => END,
     }
 }

@@ -54,7 +54,7 @@ pub(crate) fn read_model(file: &[u8], at: usize) -> Model {
 }
 
 pub(crate) fn after_model(at: usize) -> usize
-    ensures { λ r. ⌜ r ≡ min (at + 33) 65537 ⌝ }
+    ensures { λ r. ⌜ r ≡ min (at + 33) 131073 ⌝ }
 {
     after(at, PARAMS)
 }
@@ -95,7 +95,7 @@ pub(crate) fn read_schedule(file: &[u8], at: usize) -> Schedule {
 }
 
 pub(crate) fn after_schedule(file: &[u8], at: usize) -> usize
-    ensures { λ r. ⌜ r ≤ 65537 ⌝ }
+    ensures { λ r. ⌜ r ≤ 131073 ⌝ }
 {
     let written_at = after(at, 2);
     let written = word(file, after(at, 1));

@@ -47,6 +47,8 @@ fn report_values_and_paths(file: &[u8]) {
 fn report_vanillas(file: &[u8]) {
     report(file, 4, b"vanilla batch");
     report(file, 5, b"mirrored batch");
+    report(file, 9, b"down-and-out batch");
+    report(file, 10, b"mirrored down-and-out batch");
 }
 
 fn report_vix_and_matrices(file: &[u8]) {
@@ -68,10 +70,10 @@ fn report_all(file: &[u8]) {
 }
 
 // Room for a file. Only its length is told: main's proof need not go through its bytes.
-fn room() -> [u8; 524288]
-    ensures { λ r. ⌜ 524288 ≡ length r ⌝ }
+fn room() -> [u8; 1048576]
+    ensures { λ r. ⌜ 1048576 ≡ length r ⌝ }
 {
-    [0; 524288]
+    [0; 1048576]
 }
 
 fn main() {

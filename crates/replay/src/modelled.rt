@@ -1,4 +1,4 @@
-// Calls 3 to 7 begin with a model: weights, discounts and parameters.
+// Calls 3 to 7, 9 and 10 begin with a model: weights, discounts and parameters.
 use crate::inputs::after_model;
 use crate::inputs::read_model;
 use crate::tables::list;
@@ -21,9 +21,8 @@ pub(crate) fn replay(file: &[u8], call: u64, at: usize, end: usize) -> bool {
     let model = read_model(file, model_at);
     match call {
         3 => traces::replay(file, rest_at, end, weights, discounts, model),
-        4 => vanillas::replay(file, rest_at, end, false, weights, discounts, model),
-        5 => vanillas::replay(file, rest_at, end, true, weights, discounts, model),
         6 => vix::evaluation(file, rest_at, end, weights, discounts, model),
-        _ => vix::batch(file, rest_at, end, weights, discounts, model),
+        7 => vix::batch(file, rest_at, end, weights, discounts, model),
+        _ => vanillas::replay(file, call, rest_at, end, weights, discounts, model),
     }
 }

@@ -38,7 +38,7 @@ pub(crate) fn same_head(file: &[u8], at: usize, number: u32, place: [u64; 4]) ->
 }
 
 pub(crate) fn after_head(at: usize) -> usize
-    ensures { λ r. ⌜ r ≡ min (at + 5) 65537 ⌝ }
+    ensures { λ r. ⌜ r ≡ min (at + 5) 131073 ⌝ }
 {
     after(at, HEAD)
 }

@@ -7,7 +7,7 @@ ghost use lib.Ieee.{binary64, ofBits};
 ghost use Prim.Native.Nat.{_+_, _*_, _^_, _≤_, _<_, min};
 
 // The farthest place that is told from others. It lies past the longest file.
-pub const END: usize = 65_537;
+pub const END: usize = 131_073;
 
 fn wide(byte: u8) -> u64
     ensures { λ r. ⌜ r ≤ 255 ⌝ }
@@ -26,7 +26,7 @@ fn byte(file: &[u8], at: usize) -> u64
 
 // The number of four bytes.
 fn half(file: &[u8], from: usize) -> u64
-    requires { ⌜ from ≤ 8 * 65537 + 4 ⌝ }
+    requires { ⌜ from ≤ 8 * 131073 + 4 ⌝ }
     ensures { λ r. ⌜ r < 2 ^ 32 ⌝ }
 {
     byte(file, from)
@@ -44,7 +44,7 @@ pub(crate) fn word(file: &[u8], at: usize) -> u64 {
 
 // The place so many words further on.
 pub(crate) fn after(at: usize, count: u64) -> usize
-    ensures { λ r. ⌜ r ≡ min (at + count) 65537 ⌝ }
+    ensures { λ r. ⌜ r ≡ min (at + count) 131073 ⌝ }
 {
     if at < END {
         if count < END as u64 {
@@ -59,7 +59,7 @@ pub(crate) fn after(at: usize, count: u64) -> usize
 
 // The place after a list.
 pub(crate) fn after_list(file: &[u8], at: usize) -> usize
-    ensures { λ r. ⌜ r ≤ 65537 ⌝ }
+    ensures { λ r. ⌜ r ≤ 131073 ⌝ }
 {
     after(after(at, 1), word(file, at))
 }

@@ -26,19 +26,19 @@ use Rattle.walks.specs.Inner.Handed.{observeBy, batchOf}
 use Rattle.estimates.specs.declared.Payoff.{Payoff}
 use Rattle.batch.specs.declared.Priced.{Priced}
 use Rattle.batch.specs.declared.Priced.the-variants as priced
-use Rattle.batch.specs.Questions.{strikeQuestions, pathQuestions, batchQuestions}
+use Rattle.batch.specs.Questions.{pathQuestions, batchQuestions}
 use Rattle.batch.specs.Claim.{answerOf}
 use Rattle.batch.specs.Inner.Handed.{Ready, PricedOnceAsked}
 use Rattle.batch.proofs.Asked.{refused-answered, read-answered}
 use Rattle.vanilla.specs.declared.Estimate.{Estimate}
-use Rattle.vanilla.specs.Call.{VanillaInputs, vanillaQuestions, vanillaBatch, vanillaPayoff}
-use Rattle.vanilla.specs.Call.{read, VanillaAnswered}
+use Rattle.vanilla.specs.Call.{VanillaInputs, termsQuestions, vanillaQuestions}
+use Rattle.vanilla.specs.Call.{vanillaBatch, vanillaPayoff, read, VanillaAnswered}
 use Rattle.vanilla.specs.Inner.Answer.{written}
 
 module _ (i : VanillaInputs) (lent : List Float) where
   -- what is asked before 19
   abbrev earlier : List Question
-  earlier = modelQuestions (i .given) ++ strikeQuestions (i .order .strike)
+  earlier = modelQuestions (i .given) ++ termsQuestions (i .order .terms)
 
   -- 19 to 21, over a schedule
   abbrev sizes : Simulation → Outcome
@@ -54,7 +54,7 @@ module _ (i : VanillaInputs) (lent : List Float) where
 
   module _
       (door : ModelAdmission) (m : ModelPrepared (i .given) door) {asked : Outcome}
-      (first : asked ≡ orLater (door .outcome) (firstNo (strikeQuestions (i .order .strike))))
+      (first : asked ≡ orLater (door .outcome) (firstNo (termsQuestions (i .order .terms))))
     where
       first-is : asked ≡ firstNo earlier
       first-is = first ∙ rw (m .outcome) (sym (append (modelQuestions (i .given)) _))

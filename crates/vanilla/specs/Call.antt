@@ -1,5 +1,5 @@
--- The vanilla batch, ordinary or mirrored: its questions, its answer and its claim, for all inputs.
--- Definitions only.
+-- The vanilla batch, ordinary or mirrored, of calls, puts or down-and-out puts: its questions, its
+-- answer and its claim, for all inputs. Definitions only.
 use mathlib.Core.List.{List, [], _∷_, _++_}
 use Prim.Native.Nat.{ℕ}
 use lib.ListN.{length}
@@ -12,9 +12,12 @@ use Rattle.admission.specs.Questions.{modelQuestions}
 use Rattle.walks.specs.declared.Observed.the-variants.{Spot}
 use Rattle.walks.specs.Batch.{Batch, batchOn}
 use Rattle.estimates.specs.declared.Payoff.{Payoff}
-use Rattle.batch.specs.Questions.{strikeQuestions, vanillaAt, pathQuestions, batchQuestions}
+use Rattle.batch.specs.Questions.{strikeQuestions, barrierQuestions, vanillaAt, downAndOutAt}
+use Rattle.batch.specs.Questions.{pathQuestions, batchQuestions}
 use Rattle.batch.specs.Claim.{BatchAnswer}
 use Rattle.batch.specs.Answered.{BatchAnswered}
+use Rattle.vanilla.specs.declared.Terms.{Terms}
+use Rattle.vanilla.specs.declared.Terms.the-variants.{Vanilla, DownAndOut}
 use Rattle.vanilla.specs.declared.Order.{Order}
 use Rattle.vanilla.specs.declared.Estimate.{Estimate}
 
@@ -27,13 +30,18 @@ pub record VanillaInputs : Type 0 where
 abbrev pub vanillaInputs : Given → Order → List Float → VanillaInputs
 vanillaInputs given order draws = record { given = given; order = order; draws = draws }
 
--- Rule 15.3: those of the model, of the strike and of the batch, with a table of so many doubles
+-- Rule 14.9: those of the strike, and of a down-and-out put those of its barrier after them
+abbrev pub termsQuestions : Terms → List Question
+termsQuestions (Vanilla put strike) = strikeQuestions strike
+termsQuestions (DownAndOut strike barrier) = strikeQuestions strike ++ barrierQuestions barrier
+
+-- Rule 15.3: those of the model, of the terms and of the batch, with a table of so many doubles
 -- lent
 unfoldable pub vanillaQuestions : VanillaInputs → ℕ → List Question
 unfolding modelQuestions pathQuestions startOf gridOf
 vanillaQuestions i lent =
     modelQuestions (i .given)
-    ++ strikeQuestions (i .order .strike)
+    ++ termsQuestions (i .order .terms)
     ++ batchQuestions (simulationOf (i .given) .grid) (i .order .mirrored) (i .order .paths)
     (length (i .draws)) lent
 
@@ -43,9 +51,14 @@ vanillaBatch i =
     batchOn (simulationOf (i .given)) Spot (λ s. s .spot) (i .order .mirrored) (i .order .paths)
     (i .draws)
 
--- Rule 10.5: the payoff of its order
+-- Rule 10.5: the payoff of the terms
+abbrev pub termsPayoff : Terms → Payoff
+termsPayoff (Vanilla put strike) = vanillaAt put strike
+termsPayoff (DownAndOut strike barrier) = downAndOutAt strike barrier
+
+-- Rule 10.5: the payoff of an order's terms
 abbrev pub vanillaPayoff : VanillaInputs → Payoff
-vanillaPayoff i = vanillaAt (i .order .put) (i .order .strike)
+vanillaPayoff i = termsPayoff (i .order .terms)
 
 -- Rules 17.2 and 18.4: every field of the answer, as the claim speaks of it
 abbrev pub read : Estimate → BatchAnswer

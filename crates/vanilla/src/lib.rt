@@ -1,22 +1,31 @@
-// The vanilla call: a batch of calls or puts on the spot, ordinary or mirrored.
+// The vanilla call: a batch of calls, puts or down-and-out puts on the spot, ordinary or mirrored.
 ghost use mathlib.Core.Path.{_≡_};
+ghost use Rattle.refusal.specs.Questions.{firstNo};
 ghost use Rattle.model.specs.Simulation.{given};
+ghost use Rattle.vanilla.specs.Call.{termsQuestions, termsPayoff};
 ghost use Rattle.vanilla.specs.Call.{vanillaInputs, VanillaAnswered};
 ghost use Rattle.vanilla.specs.Inner.Answer.{written};
 use batch::Priced;
 use batch::pricing;
 use batch::questions;
 use decimal::Decimal;
+use estimates::Payoff;
 use model::Model;
 use model::Schedule;
 use refusal::Outcome;
 use walks::Batch;
 use walks::Observation;
 
-// What is priced: a call or a put at its strike, over so many paths.
+// What is paid on the spot: a call or a put at its strike, or a put that vanishes once the spot is
+// at its barrier or below.
+pub enum Terms {
+    Vanilla { put: bool, strike: Decimal },
+    DownAndOut { strike: Decimal, barrier: Decimal },
+}
+
+// What is priced: these terms, over so many paths.
 pub struct Order {
-    pub put: bool,
-    pub strike: Decimal,
+    pub terms: Terms,
     pub mirrored: bool,
     pub paths: usize,
 }
@@ -74,6 +83,29 @@ fn answer(priced: Priced) -> Estimate
     }
 }
 
+// 18 and 1 of the strike, then 27 and 1 of a barrier.
+fn terms_questions(terms: Terms) -> Outcome
+    ensures { λ r. ⌜ r ≡ firstNo (termsQuestions terms) ⌝ }
+{
+    match terms {
+        Terms::Vanilla { strike, .. } => questions::strike_questions(strike),
+        Terms::DownAndOut { strike, barrier } => {
+            let first = questions::strike_questions(strike);
+            let later = questions::barrier_questions(barrier);
+            refusal::or_later(first, later)
+        }
+    }
+}
+
+fn terms_payoff(terms: Terms) -> Payoff
+    ensures { λ r. ⌜ r ≡ termsPayoff terms ⌝ }
+{
+    match terms {
+        Terms::Vanilla { put, strike } => questions::vanilla_payoff(put, strike),
+        Terms::DownAndOut { strike, barrier } => questions::down_and_out_payoff(strike, barrier),
+    }
+}
+
 // A row of observations a path, a column a segment.
 pub fn price(
     weights: &[f64],
@@ -89,9 +121,10 @@ pub fn price(
         order (now (draws .entry)))
         (now (observations .entry)) (now (observations .exit)) r ⌝ }
 {
+    let terms = order.terms;
     let admitted = admission::prepare(weights, discounts, model, schedule);
     let first = admitted.outcome;
-    let asked = refusal::or_later(first, questions::strike_questions(order.strike));
+    let asked = refusal::or_later(first, terms_questions(terms));
     if let Outcome::Refused(refusal) = asked {
         return answer(Priced::Refused {
             refusal: refusal,
@@ -106,6 +139,6 @@ pub fn price(
         mirrored: order.mirrored,
         paths: order.paths,
     };
-    let payoff = questions::vanilla_payoff(order.put, order.strike);
+    let payoff = terms_payoff(terms);
     answer(pricing::price(batch, payoff, draws, observations))
 }

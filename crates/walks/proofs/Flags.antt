@@ -1,17 +1,10 @@
--- A flag that is raised, and a count that goes up with it. Assumes nothing.
+-- A count that goes up with a flag. Assumes nothing.
 use mathlib.Core.Path.{_≡_, sym, _∙_}
-use mathlib.Core.Bool.{Bool, true, false, cond, _||_, or-true, or-false}
+use mathlib.Core.Bool.{Bool, true, false, cond}
 use Prim.Native.Nat.{ℕ, _+_, _≤_}
 use native.Mathlib.Nat.{add-zero}
 use native.Mathlib.Omega.{arith}
 
-pub raised : (low low′ t : Bool) → t ≡ true → low′ ≡ true → low′ ≡ (low || t)
-raised low low′ t p q = q ∙ sym (rw p (or-true low))
-
-pub left-low : (low low′ t : Bool) → t ≡ false → low′ ≡ low → low′ ≡ (low || t)
-left-low low low′ t p q = q ∙ sym (rw p (or-false low))
-
--- a count that goes up with the flag
 pub count-up : (n n′ : ℕ) (low : Bool) → low ≡ true → n′ ≡ n + 1 → n′ ≡ n + cond low 1 0
 count-up n n′ low p q = rw p q
 

@@ -1,10 +1,10 @@
 //! The core, called through its C exports.
 
-use oracle::cases::{Case, Model, Outcome, lent};
-use oracle::edge::{Decimal, Factors, Schedule, VixPayoff};
+use oracle::cases::{Case, Model, Outcome, Terms, lent};
+use oracle::edge::{self, Decimal, Estimate, Factors, Schedule, VixPayoff};
 use qrh_sys::{
-    qrh_convert, qrh_exponential, qrh_mirrored, qrh_sqrt, qrh_trace, qrh_vanilla, qrh_vix,
-    qrh_vix_batch,
+    qrh_convert, qrh_down_and_out, qrh_exponential, qrh_mirrored, qrh_mirrored_down_and_out,
+    qrh_sqrt, qrh_trace, qrh_vanilla, qrh_vix, qrh_vix_batch,
 };
 
 /// A table lent to the core, between two guards that it must not touch.
@@ -54,21 +54,34 @@ pub fn run(case: &Case) -> Outcome {
             mirrored,
             model,
             schedule,
-            put,
-            strike,
+            terms,
             paths,
             draws,
             observations,
-        } => vanilla(
-            *mirrored,
-            model,
-            schedule,
-            *put,
-            *strike,
-            *paths,
-            draws,
-            *observations,
-        ),
+        } => match *terms {
+            Terms::Vanilla { put, strike } => vanilla(
+                if *mirrored { qrh_mirrored } else { qrh_vanilla },
+                (put, strike),
+                model,
+                schedule,
+                *paths,
+                draws,
+                *observations,
+            ),
+            Terms::DownAndOut { strike, barrier } => vanilla(
+                if *mirrored {
+                    qrh_mirrored_down_and_out
+                } else {
+                    qrh_down_and_out
+                },
+                (strike, barrier),
+                model,
+                schedule,
+                *paths,
+                draws,
+                *observations,
+            ),
+        },
         Case::Vix {
             model,
             window,
@@ -155,29 +168,45 @@ fn trace(model: &Model, schedule: &Schedule, draws: &[f64], tables: [usize; 4]) 
     }
 }
 
-fn vanilla(
-    mirrored: bool,
+/// The export of a batch on the spot. After the schedule it takes put and strike, or strike and
+/// barrier.
+type Export<First> = unsafe extern "C" fn(
+    *const f64,
+    usize,
+    *const f64,
+    usize,
+    edge::Model,
+    Schedule,
+    First,
+    Decimal,
+    usize,
+    *const f64,
+    usize,
+    *mut f64,
+    usize,
+) -> Estimate;
+
+fn vanilla<First>(
+    export: Export<First>,
+    (first, second): (First, Decimal),
     model: &Model,
     schedule: &Schedule,
-    put: bool,
-    strike: Decimal,
     paths: usize,
     draws: &[f64],
     observations: usize,
 ) -> Outcome {
-    let call = if mirrored { qrh_mirrored } else { qrh_vanilla };
     let mut table = Lent::new(1, observations);
     // SAFETY: each pointer is followed by the length of its table, and the lent table is its own.
     let answer = unsafe {
-        call(
+        export(
             model.weights.as_ptr(),
             model.weights.len(),
             model.discounts.as_ptr(),
             model.discounts.len(),
             model.inputs,
             *schedule,
-            put,
-            strike,
+            first,
+            second,
             paths,
             draws.as_ptr(),
             draws.len(),

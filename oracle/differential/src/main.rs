@@ -18,7 +18,7 @@ const USAGE: &str =
   --only I      the case of this index alone, shown whole";
 
 /// The share of the time that each call gets, in the order of `CALLS`.
-const WEIGHTS: [f64; 8] = [1.0, 1.0, 4.0, 4.0, 4.0, 4.0, 6.0, 3.0];
+const WEIGHTS: [f64; 10] = [1.0, 1.0, 4.0, 4.0, 4.0, 4.0, 6.0, 3.0, 4.0, 4.0];
 
 struct Options {
     seconds: f64,

@@ -1,6 +1,7 @@
 //! The oracle under the C names of the core, to try the comparison without a core.
 
 use oracle::calls;
+use oracle::cases::Terms;
 use oracle::edge::{
     self, Conversion, Decimal, Estimate, Exponentiation, Factors, Schedule, Tracing, VixEstimate,
     VixPayoff, VixValue,
@@ -82,8 +83,7 @@ pub unsafe extern "C" fn qrh_vanilla(
             from_raw_parts(discounts, discounts_length),
             &model,
             &schedule,
-            put,
-            strike,
+            &Terms::Vanilla { put, strike },
             paths,
             from_raw_parts(draws, draws_length),
             from_raw_parts_mut(observations, observations_length),
@@ -118,8 +118,77 @@ pub unsafe extern "C" fn qrh_mirrored(
             from_raw_parts(discounts, discounts_length),
             &model,
             &schedule,
-            put,
-            strike,
+            &Terms::Vanilla { put, strike },
+            paths,
+            from_raw_parts(draws, draws_length),
+            from_raw_parts_mut(observations, observations_length),
+        )
+    }
+}
+
+/// # Safety
+///
+/// Each pointer has as many doubles as the length after it says.
+#[unsafe(no_mangle)]
+pub unsafe extern "C" fn qrh_down_and_out(
+    weights: *const f64,
+    weights_length: usize,
+    discounts: *const f64,
+    discounts_length: usize,
+    model: edge::Model,
+    schedule: Schedule,
+    strike: Decimal,
+    barrier: Decimal,
+    paths: usize,
+    draws: *const f64,
+    draws_length: usize,
+    observations: *mut f64,
+    observations_length: usize,
+) -> Estimate {
+    // SAFETY: the caller sees to it.
+    unsafe {
+        calls::vanilla(
+            false,
+            from_raw_parts(weights, weights_length),
+            from_raw_parts(discounts, discounts_length),
+            &model,
+            &schedule,
+            &Terms::DownAndOut { strike, barrier },
+            paths,
+            from_raw_parts(draws, draws_length),
+            from_raw_parts_mut(observations, observations_length),
+        )
+    }
+}
+
+/// # Safety
+///
+/// Each pointer has as many doubles as the length after it says.
+#[unsafe(no_mangle)]
+pub unsafe extern "C" fn qrh_mirrored_down_and_out(
+    weights: *const f64,
+    weights_length: usize,
+    discounts: *const f64,
+    discounts_length: usize,
+    model: edge::Model,
+    schedule: Schedule,
+    strike: Decimal,
+    barrier: Decimal,
+    paths: usize,
+    draws: *const f64,
+    draws_length: usize,
+    observations: *mut f64,
+    observations_length: usize,
+) -> Estimate {
+    // SAFETY: the caller sees to it.
+    unsafe {
+        calls::vanilla(
+            true,
+            from_raw_parts(weights, weights_length),
+            from_raw_parts(discounts, discounts_length),
+            &model,
+            &schedule,
+            &Terms::DownAndOut { strike, barrier },
             paths,
             from_raw_parts(draws, draws_length),
             from_raw_parts_mut(observations, observations_length),

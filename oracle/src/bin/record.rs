@@ -25,8 +25,9 @@ fn main() -> Result<(), Box<dyn Error>> {
 const LOOKED_AT: u64 = 20_000;
 
 /// The figures, then generated cases: of each number that a call gives the first `most`, more of 0
-/// and 22, and the first answered one with ten factors. Cases that are too long, and those whose
-/// norm is outside the comparison, are left out.
+/// and 22, and the first answered one with ten factors; of the answered down-and-out puts mostly
+/// those with a price above zero. Cases that are too long, and those whose norm is outside the
+/// comparison, are left out.
 fn write(file: &str, options: &[&str]) -> Result<(), Box<dyn Error>> {
     let mut calls: Vec<usize> = (0..CALLS.len()).collect();
     let mut most = 6;
@@ -53,7 +54,7 @@ fn write(file: &str, options: &[&str]) -> Result<(), Box<dyn Error>> {
         }
     }
     for call in calls {
-        let mut kept: BTreeMap<u32, usize> = BTreeMap::new();
+        let mut kept: BTreeMap<(u32, bool), usize> = BTreeMap::new();
         let mut ten = false;
         for index in 0..LOOKED_AT {
             let case = records::trimmed(generator::case(seed, call, index, generator::SMALL));
@@ -61,13 +62,17 @@ fn write(file: &str, options: &[&str]) -> Result<(), Box<dyn Error>> {
                 continue;
             }
             let outcome = case.expected();
+            let worthless =
+                matches!(call, 8 | 9) && outcome.number == 0 && outcome.values[0] == 0.0;
             let limit = match (outcome.number, call) {
                 (0, 0 | 1) => 40 * most,
                 (0, 7) => 15 * most,
+                (0, _) if worthless => most,
+                (0, 8 | 9) => 8 * most,
                 (0 | 22, _) => 5 * most,
                 _ => most,
             };
-            let so_far = kept.entry(outcome.number).or_default();
+            let so_far = kept.entry((outcome.number, worthless)).or_default();
             let first_ten = !ten && outcome.number == 0 && factors(&case) == 10;
             ten |= first_ten;
             if *so_far < limit || first_ten {

@@ -1,6 +1,7 @@
 //! Batches of several groups of four paths. In chosen paths, at chosen steps, something happens
 //! that a walk of four paths side by side could get wrong.
 
+use super::barriers::Paths;
 use super::{Source, WILD, decimal};
 use crate::cases::{Case, Model};
 use crate::edge::{self, Decimal, Schedule, Segment, VixPayoff};
@@ -21,6 +22,16 @@ impl Batch {
         Source::total(&self.schedule)
     }
 
+    fn walked(&self) -> Paths<'_> {
+        Paths {
+            mirrored: self.mirrored,
+            model: &self.model,
+            schedule: &self.schedule,
+            paths: self.paths,
+            draws: &self.draws,
+        }
+    }
+
     /// The draws of a path, from 0. In a mirrored batch the second path of a pair has them negated.
     fn list(&mut self, path: usize) -> &mut [f64] {
         let total = self.total();
@@ -36,13 +47,16 @@ impl Batch {
 }
 
 impl Source {
-    pub(super) fn vanilla_of_fours(&mut self, mirrored: bool) -> Case {
+    pub(super) fn vanilla_of_fours(&mut self, mirrored: bool, barred: bool) -> Case {
         let n = 1 + self.below(10) as usize;
         let batch = self.fours(n, mirrored);
         Case::Vanilla {
             mirrored,
-            put: self.flip(),
-            strike: self.strike(),
+            terms: if barred {
+                self.down_and_out(&batch.walked())
+            } else {
+                self.vanilla_terms()
+            },
             observations: batch.paths * batch.schedule.count,
             model: batch.model,
             schedule: batch.schedule,
@@ -142,7 +156,7 @@ impl Source {
     }
 
     /// A path, from 0: of the first, the middle or the last group of four, or of those left over.
-    fn member(&mut self, paths: usize) -> usize {
+    pub(super) fn member(&mut self, paths: usize) -> usize {
         let groups = paths / 4;
         let group = self.pick(&[0, groups / 2, groups.saturating_sub(1), groups]);
         (4 * group + self.below(4) as usize).min(paths - 1)

@@ -270,6 +270,8 @@ impl QuadraticRoughHestonParams {
             z,
             variance,
             factors: raw_factors,
+            // Oracle: the start is the first spot.
+            lowest: decimal_to_f64(spot.to_dec())?,
         };
         // Oracle: the library turns `z` and `variance` into `Decimal`s here.
 
@@ -331,6 +333,8 @@ pub(crate) struct State {
     pub(crate) z: f64,
     pub(crate) variance: f64,
     pub(crate) factors: Vec<f64>,
+    // Oracle: the lowest spot so far, the start included; the library keeps none.
+    pub(crate) lowest: f64,
 }
 
 /// A value of the state that stopped being finite: the kernel's small form of
@@ -378,6 +382,8 @@ fn step(params: &QuadraticRoughHestonParams, state: &State, dw: f64, dt: f64, ne
     let diffusion = state.variance.sqrt() * dw; // scan-banned: allow -- f64 `sqrt`: returns NaN for negative input, it does not abort; `ensure_finite` rejects it
     let forcing = -raw.lambda * state.z * dt + raw.eta * diffusion;
     next.spot = state.spot + state.spot * diffusion;
+    // Oracle: the lowest spot is carried.
+    next.lowest = state.lowest.min(next.spot);
     for ((next_factor, factor), discount) in next
         .factors
         .iter_mut()

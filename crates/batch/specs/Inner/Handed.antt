@@ -17,7 +17,7 @@ use Rattle.paths.specs.declared.Walked.{Walked}
 use Rattle.paths.specs.declared.Run.{Run}
 use Rattle.paths.specs.declared.Run.the-variants as run
 use Rattle.paths.specs.Run.{tableAfter}
-use Rattle.paths.specs.Inner.Handed.{lastObservation}
+use Rattle.tally.specs.Inner.Rows.{lastObservation}
 use Rattle.batch.specs.declared.Priced.{Priced}
 use Rattle.batch.specs.declared.Priced.the-variants.{Price, Refused}
 use Rattle.batch.specs.Questions.{batchQuestions}

@@ -1,13 +1,14 @@
 -- `groups::walk_four` meets its contract. Assumes nothing.
 use Prim.Native.Nat.{ℕ, suc, _+_, _-_, _<_}
 use mathlib.Core.Path.{_≡_, refl, sym, _∙_, subst}
-use mathlib.Core.Bool.{Bool, false}
+use mathlib.Core.Bool.{Bool}
 use mathlib.Core.List.{List}
 use native.Mathlib.Omega.{arith}
 use borrow.Author.Needs.{needs}
 use borrow.Author.Tests.{not-false}
 use lib.ListN.{length, getD}
 use lib.Ieee.{Float, nan}
+use Rattle.numeric.proofs.Finite.{never}
 use Rattle.model.specs.declared.Kernel.{Kernel}
 use Rattle.model.specs.declared.Params.{Params}
 use Rattle.model.specs.declared.TimeGrid.{TimeGrid}
@@ -27,7 +28,6 @@ use Rattle.walks.specs.Batch.{Batch, drawOf}
 use Rattle.walks.specs.Inner.Handed.{observeBy}
 use Rattle.groups.specs.Inner.Group.{FourWalked}
 use Rattle.walks.proofs.Handed.{step-in-use}
-use Rattle.lanes.proofs.Four.{four-same}
 use Rattle.groups.proofs.Beside.{Beside, beside-first, beside-on, beside-write, beside-done, lane-at-start}
 use Rattle.groups.proofs.walk_four.Statement.{statement}
 use Rattle.groups.proofs.walk_four.Tie as tie
@@ -44,16 +44,16 @@ sideBatch k p start sched observation mirrored paths draws =
     }
 
 abbrev Inv-loop : tie.InvT-loop
-Inv-loop path draws rows₀ mirrored observation k p sched total count factors₀ s₀ low₀ segment₀ rates₀ at₀ rows factors s low segment rates at =
-    ((paths : ℕ) → Beside (sideBatch k p (laneOf (k .n) s₀ factors₀ 0) sched observation mirrored paths draws) (k .n) path segment at s factors low rows)
+Inv-loop path draws rows₀ mirrored observation k p sched total count factors₀ s₀ segment₀ rates₀ at₀ rows factors s segment rates at =
+    ((paths : ℕ) → Beside (sideBatch k p (laneOf (k .n) s₀ factors₀ 0) sched observation mirrored paths draws) (k .n) path segment at s factors rows)
     × RatesOf k (getD (sched .dt) segment nan) (getD (sched .«sqrt_dt») segment nan) rates
 
 abbrev μ-loop : tie.MeasureT-loop
-μ-loop path draws rows₀ mirrored observation k p sched total count factors₀ s₀ low₀ segment₀ rates₀ at₀ rows factors s low segment rates at =
+μ-loop path draws rows₀ mirrored observation k p sched total count factors₀ s₀ segment₀ rates₀ at₀ rows factors s segment rates at =
     total - at
 
 -- ---- the places of the code that the answers name: the entry, the loop's head, a turn, the step
--- tried, and the flags set after it
+-- tried, and its states taken
 
 abbrev Entry : Type 0
 Entry = tie.Start Inv-loop μ-loop
@@ -67,8 +67,8 @@ Turn = tie.In-loop Inv-loop μ-loop
 abbrev Stepped : Type 0
 Stepped = tie.After-try-step Inv-loop μ-loop
 
-abbrev Flagged : Type 0
-Flagged = tie.After-fallen Inv-loop μ-loop
+abbrev Taken : Type 0
+Taken = tie.After-next Inv-loop μ-loop
 
 abbrev start-of : tie.After-all-at Inv-loop μ-loop → Entry
 start-of c = c .before .before .before .before .before .before .before .before .before .before .before .before .before
@@ -79,11 +79,11 @@ entry c = start-of (c .before .before)
 abbrev turn-of : Stepped → Turn
 turn-of c = c .before .before .before
 
-abbrev step-of : Flagged → Stepped
-step-of c = c .before .before .before .before .before .before
+abbrev step-of : Taken → Stepped
+step-of c = c .before .before .before .before
 
-abbrev flagged-of : tie.After-slice-known2 Inv-loop μ-loop → Flagged
-flagged-of c = c .before .before .before .before .before .before .before .before
+abbrev taken-of : tie.After-slice-known2 Inv-loop μ-loop → Taken
+taken-of c = c .before .before .before .before .before .before .before .before
 
 laid-at : (c : Entry) → Laid (gridInUse (c .args .batch .simulation .grid))
 laid-at c = laid-in-use (c .args .batch .simulation .grid) (c .pre .laid)
@@ -121,8 +121,8 @@ loop-holds c =
     let start = start-of (c .before) in
     let same = all-start (c .before) in (
       λ paths.
-          beside-first _ (laid-at start) (start .args .batch .simulation .kernel .n) (start .args .path) _ _ _ _ (c .before .before .before .spread .ensures .long)
-          (start .pre .rows-long) (λ l h. same l h ∙ sym (same 0 (omega arith))) (four-same false false),
+          beside-first _ (laid-at start) (start .args .batch .simulation .kernel .n) (start .args .path) _ _ _ (c .before .before .before .spread .ensures .long)
+          (start .pre .rows-long) (λ l h. same l h ∙ sym (same 0 (omega arith))),
       c .rates-at .ensures,
     )
 
@@ -140,19 +140,19 @@ try-step-requires c κs =
     let head : Head = c .before .before .before in
     ((entry head .pre .few, head .loop .inv .0 0 .long), rates-own (entry head .args .batch .simulation .kernel) _ _ _ (head .loop .inv .1))
 
+unsure-requires : tie.Need-unsure-requires Inv-loop μ-loop
+unsure-requires c κs = search needs
+
 same-length : tie.Need-same-length Inv-loop μ-loop
 same-length c =
-    let head : Head = turn-of (c .before .before .before) .before in head .loop .inv .0 0 .wide ∙ sym (entry head .pre .rows-long)
+    let head : Head = turn-of (c .before .before .before .before) .before in head .loop .inv .0 0 .wide ∙ sym (entry head .pre .rows-long)
 
 returns : tie.Need-returns Inv-loop μ-loop
-returns c = (turn-of (c .before .before .before) .before .loop .inv .0 0 .wide, tt)
+returns c = (turn-of (c .before .before .before .before) .before .loop .inv .0 0 .wide, never (c .unsure .ensures))
 
 add-at : tie.Need-add-at Inv-loop μ-loop
 add-at c =
     let turn : Turn = turn-of (c .before .before .before .before) in omega (arith, turn .loop-test .taken, entry (turn .before) .pre .laid .short)
-
-fallen-requires : tie.Need-fallen-requires Inv-loop μ-loop
-fallen-requires c κs = search needs
 
 segment-few : (c : Turn) → c .before .loop .segment < 64
 segment-few c = omega (arith, open-at c, entry (c .before) .pre .laid .few)
@@ -172,9 +172,9 @@ long-now c = c .try-step .ensures .long ∙ turn-of c .before .loop .inv .0 0 .l
 
 observe-requires : tie.Need-observe-requires Inv-loop μ-loop
 observe-requires c κs =
-    let flagged : Flagged = c .before .before .before in
-    let given = entry (turn-of (step-of flagged) .before) in
-    (omega (arith, given .pre .few, given .pre .form), long-now (step-of flagged))
+    let taken : Taken = c .before .before .before in
+    let given = entry (turn-of (step-of taken) .before) in
+    (omega (arith, given .pre .few, given .pre .form), long-now (step-of taken))
 
 write-column-requires : tie.Need-write-column-requires Inv-loop μ-loop
 write-column-requires c κs =
@@ -182,14 +182,14 @@ write-column-requires c κs =
     (turn .before .loop .inv .0 0 .wide, entry (turn .before) .pre .laid .few, open-at turn)
 
 add-segment : tie.Need-add-segment Inv-loop μ-loop
-add-segment c = omega (arith, segment-few (turn-of (step-of (flagged-of c))))
+add-segment c = omega (arith, segment-few (turn-of (step-of (taken-of c))))
 
 rates-at-requires-2 : tie.Need-rates-at-requires-2 Inv-loop μ-loop
-rates-at-requires-2 c κs = entry (turn-of (step-of (flagged-of c)) .before) .pre .few
+rates-at-requires-2 c κs = entry (turn-of (step-of (taken-of c)) .before) .pre .few
 
 -- ---- a step: what it leaves
 
-module _ (c : Flagged) where
+module _ (c : Taken) where
   abbrev head : Head
   head = turn-of (step-of c) .before
 
@@ -200,7 +200,7 @@ module _ (c : Flagged) where
   stepped : (l : ℕ) → l < 4 → laneOf (given .args .batch .simulation .kernel .n) (step-of c .try-step .result .lanes) (step-of c .try-step .last .1 .1 .1 .1 .1 .0) l ≡ step (kernelInUse (given .args .batch .simulation .kernel)) (given .args .batch .simulation .params) (laneOf (given .args .batch .simulation .kernel .n) (head .loop .s) (head .loop .factors) l) (drawOf (given .args .batch .mirrored) (given .args .draws .now) (given .args .batch .simulation .grid .total) (suc (given .args .path + l)) (suc (head .loop .at))) (dtAt (gridInUse (given .args .batch .simulation .grid)) (suc (head .loop .at))) (sqrtDtAt (gridInUse (given .args .batch .simulation .grid)) (suc (head .loop .at)))
   stepped l h =
       step-in-use (given .args .batch .simulation .grid) (given .pre .laid) _ _ (head .loop .inv .0 0 .reached) (open-at (turn-of (step-of c))) (given .args .batch .simulation .kernel) (head .loop .rates) (head .loop .inv .1) _ _ _ _ _ _ (step-of c .before .before .draws-at .ensures l h)
-      (step-of c .try-step .ensures .lane (not-false _ (c .before .before .before .if1 .left)) l h)
+      (step-of c .try-step .ensures .lane (not-false _ (c .before .if1 .left)) l h)
 
   -- the last step of the segment
   last-now : getD (given .args .batch .simulation .grid .last) (head .loop .segment) 0 ≡ lastStep (gridInUse (given .args .batch .simulation .grid)) (suc (head .loop .segment))
@@ -213,13 +213,13 @@ loop-again : tie.Need-loop-again Inv-loop μ-loop
 loop-again c =
     let written = c .before .before .before in
     let observed = written .before .before in
-    let flagged : Flagged = flagged-of (c .before) in
-    let h = head flagged in (
+    let taken : Taken = taken-of (c .before) in
+    let h = head taken in (
       λ paths.
-          beside-write (laid-at (given flagged)) (h .loop .inv .0 paths) (turn-of (step-of flagged) .loop-test .taken) _ _ _
-          (stepped flagged) (long-now (step-of flagged)) (flagged .fallen .ensures)
-          (observed .before .before .if2 .taken ∙ last-now flagged) _ (written .write-column .ensures .long ∙ h .loop .inv .0 0 .wide)
-          (λ l m. written .write-column .ensures .new l m ∙ observed .observe .ensures (given flagged .args .batch .simulation .kernel .n) l (given flagged .pre .form) m)
+          beside-write (laid-at (given taken)) (h .loop .inv .0 paths) (turn-of (step-of taken) .loop-test .taken) _ _
+          (stepped taken) (long-now (step-of taken))
+          (observed .before .before .if2 .taken ∙ last-now taken) _ (written .write-column .ensures .long ∙ h .loop .inv .0 0 .wide)
+          (λ l m. written .write-column .ensures .new l m ∙ observed .observe .ensures (given taken .args .batch .simulation .kernel .n) l (given taken .pre .form) m)
           (written .write-column .ensures .kept),
       c .rates-at2 .ensures,
     )
@@ -229,11 +229,11 @@ loop-less-2 c = omega arith
 
 loop-again-2 : tie.Need-loop-again-2 Inv-loop μ-loop
 loop-again-2 c =
-    let flagged : Flagged = c .before .before in
-    let h = head flagged in (
+    let taken : Taken = c .before .before in
+    let h = head taken in (
       λ paths.
-          beside-on (laid-at (given flagged)) (h .loop .inv .0 paths) (turn-of (step-of flagged) .loop-test .taken) _ _ _
-          (stepped flagged) (long-now (step-of flagged)) (flagged .fallen .ensures) (λ e. c .if2 .left (e ∙ sym (last-now flagged))),
+          beside-on (laid-at (given taken)) (h .loop .inv .0 paths) (turn-of (step-of taken) .loop-test .taken) _ _
+          (stepped taken) (long-now (step-of taken)) (λ e. c .if2 .left (e ∙ sym (last-now taken))),
       h .loop .inv .1,
     )
 
@@ -242,14 +242,14 @@ loop-again-2 c =
 all-finite-requires : tie.Need-all-finite-requires Inv-loop μ-loop
 all-finite-requires c κs = search needs
 
+unsure-requires-2 : tie.Need-unsure-requires-2 Inv-loop μ-loop
+unsure-requires-2 c κs = search needs
+
 same-length-2 : tie.Need-same-length-2 Inv-loop μ-loop
-same-length-2 c = let head : Head = c .before .before .before in head .loop .inv .0 0 .wide ∙ sym (entry head .pre .rows-long)
+same-length-2 c = let head : Head = c .before .before .before .before in head .loop .inv .0 0 .wide ∙ sym (entry head .pre .rows-long)
 
 returns-2 : tie.Need-returns-2 Inv-loop μ-loop
-returns-2 c = (c .before .before .before .loop .inv .0 0 .wide, tt)
-
-set-flags-requires : tie.Need-set-flags-requires Inv-loop μ-loop
-set-flags-requires c κs = search needs
+returns-2 c = (c .before .before .before .before .loop .inv .0 0 .wide, never (c .unsure2 .ensures))
 
 same-length-3 : tie.Need-same-length-3 Inv-loop μ-loop
 same-length-3 c =
@@ -261,10 +261,11 @@ returns-3 c =
     let e = entry h in
     let b = e .args .batch in (
       h .loop .inv .0 0 .wide,
-      subst (λ (x : State). FourWalked (sideBatch (b .simulation .kernel) (b .simulation .params) x (b .simulation .grid) (b .observation) (b .mirrored) (b .paths) (e .args .draws .now)) (e .args .path) (h .loop .rows) (c .set-flags .result))
+      λ sure.
+          subst (λ (x : State). FourWalked (sideBatch (b .simulation .kernel) (b .simulation .params) x (b .simulation .grid) (b .observation) (b .mirrored) (b .paths) (e .args .draws .now)) (e .args .path) (h .loop .rows) (h .loop .s .lowest))
           (all-start (h .before .before) 0 (omega arith))
-          (beside-done (laid-at e) (h .loop .inv .0 (b .paths)) (c .before .before .before .loop-test .left) _ (c .set-flags .ensures .0)
-          (c .set-flags .ensures .1) (c .before .before .all-finite .ensures (not-false _ (c .before .if3 .left)))),
+          (beside-done (laid-at e) (h .loop .inv .0 (b .paths)) (c .before .before .before .loop-test .left)
+          (c .before .before .all-finite .ensures (not-false _ (c .before .if3 .left)))),
     )
 
 pub walk-four-spec : {M : Type 1} → statement M
@@ -281,10 +282,10 @@ walk-four-spec =
     draws-at-requires
     slice-aggregate-try-step
     try-step-requires
+    unsure-requires
     same-length
     returns
     add-at
-    fallen-requires
     mul-if2
     element-copy-out-if2
     slice-aggregate-observe
@@ -297,8 +298,8 @@ walk-four-spec =
     loop-less-2
     loop-again-2
     all-finite-requires
+    unsure-requires-2
     same-length-2
     returns-2
-    set-flags-requires
     same-length-3
     returns-3)

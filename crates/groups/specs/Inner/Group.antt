@@ -1,39 +1,31 @@
 -- Four paths side by side: what is claimed of them where they are walked to their ends, and what
 -- the functions of the walk leave. Definitions only.
 use mathlib.Core.Path.{_≡_}
-use mathlib.Core.Bool.{Bool, false, cond, _||_}
 use mathlib.Core.List.{List}
 use mathlib.Core.Option.{none}
-use Prim.Native.Nat.{ℕ, zero, suc, _+_, _*_, _≤_, _<_}
+use Prim.Native.Nat.{ℕ, suc, _+_, _*_, _≤_, _<_}
 use lib.ListN.{length, getD}
-use lib.Ieee.{Float, nan, le}
-use Rattle.numeric.specs.Double.{plusZero}
+use lib.Ieee.{Float, nan}
 use Rattle.model.specs.Inner.Laid.{Laid}
-use Rattle.model.specs.Walk.{stopWithin}
+use Rattle.model.specs.Walk.{stateAfter, stopWithin}
 use Rattle.walks.specs.declared.Batch.{Batch as Handed}
 use Rattle.walks.specs.declared.Observation.{Observation}
-use Rattle.walks.specs.Batch.{Batch, walkOf, drawPlace, nonPositivePaths, observation}
+use Rattle.walks.specs.Batch.{Batch, walkOf, drawPlace, observation}
 use Rattle.walks.specs.Inner.Handed.{observeBy}
 use Rattle.lanes.specs.declared.Lanes.{Lanes}
 use Rattle.lanes.specs.Inner.Lanes.{laneOf}
-use Rattle.groups.specs.declared.Together.{Together}
-use Rattle.groups.specs.declared.Together.the-variants.{Walked, Unsure}
 
--- Rules 7.6, 9.7 and 9.4: paths path + 1 to path + 4 do not stop, `low` of them are non-positive,
--- and `rows` has their observations
-pub record FourWalked (b : Batch) (path : ℕ) (rows : List Float) (low : ℕ) : Type 0 where
+-- Rules 7.6, 7.7 and 9.4: paths path + 1 to path + 4 do not stop, `lowest` has their lowest spots,
+-- and `rows` their observations
+pub record FourWalked (b : Batch) (path : ℕ) (rows lowest : List Float) : Type 0 where
   pub going : (l : ℕ) → l < 4
       → stopWithin (walkOf b (suc (path + l))) (b .simulation .grid .total) ≡ none
-  pub fallen : nonPositivePaths b (path + 4) ≡ nonPositivePaths b path + low
-  pub few : low ≤ 4
+  pub least : (l : ℕ) → l < 4
+      → getD lowest l nan
+      ≡ stateAfter (walkOf b (suc (path + l))) (b .simulation .grid .total) .lowest
   pub seen : (l j : ℕ) → l < 4 → j < b .simulation .grid .count
       → getD rows (l * b .simulation .grid .count + j) nan
       ≡ observation b (suc (path + l)) (suc j)
-
--- the same where the four are walked; where it is not sure, nothing is said
-abbrev pub Walks : Batch → ℕ → List Float → Together → Type 0
-Walks b path rows (Walked low) = FourWalked b path rows low
-Walks b path rows Unsure = Unit {0}
 
 -- what the walk is handed
 pub record GroupPrepared (b : Handed) (path : ℕ) (draws rows : List Float) : Type 0 where
@@ -46,16 +38,6 @@ pub record GroupPrepared (b : Handed) (path : ℕ) (draws rows : List Float) : T
       (suc (b .simulation .grid .total))
       ≤ length draws
   pub rows-long : length rows ≡ 256
-
--- how many of the first n flags are set
-unfoldable pub flagged : List Bool → ℕ → ℕ
-flagged flags zero = 0
-flagged flags (suc n) = flagged flags n + cond (getD flags n false) 1 0
-
--- Rule 9.7: the flags, with those set of the spots that are not above zero
-pub record Fell (low : List Bool) (spot : List Float) (flags : List Bool) : Type 0 where
-  pub flag : (l : ℕ) → l < 4
-      → getD flags l false ≡ (getD low l false || le (getD spot l nan) plusZero)
 
 -- Rule 9.1: what is observed in each lane, of states of as many factors as the form has, or more
 abbrev pub ObservedLanes : Observation → Lanes → List Float → List Float → Type 0

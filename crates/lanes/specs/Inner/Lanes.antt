@@ -30,6 +30,7 @@ laneOf n s factors l =
       z = getD (s .z) l nan;
       variance = getD (s .variance) l nan;
       factors = laneFactors n factors l;
+      lowest = getD (s .lowest) l nan;
     }
 
 -- Rule 7.4: every lane is at one state, but for its factors
@@ -37,6 +38,7 @@ pub record AllAt (start : State) (s : Lanes) : Type 0 where
   pub spot : (l : ℕ) → l < 4 → getD (s .spot) l nan ≡ start .spot
   pub z : (l : ℕ) → l < 4 → getD (s .z) l nan ≡ start .z
   pub variance : (l : ℕ) → l < 4 → getD (s .variance) l nan ≡ start .variance
+  pub lowest : (l : ℕ) → l < 4 → getD (s .lowest) l nan ≡ start .lowest
 
 -- Rule 7.4: and every lane has the first n of these factors
 pub record Spread (n : ℕ) (values after : List Float) : Type 0 where

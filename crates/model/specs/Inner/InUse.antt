@@ -19,7 +19,13 @@ kernelInUse k =
 -- Rule 5.7: a state with its first n factors
 abbrev pub stateInUse : ℕ → State → State
 stateInUse n s =
-    record { spot = s .spot; z = s .z; variance = s .variance; factors = take n (s .factors) }
+    record {
+      spot = s .spot;
+      z = s .z;
+      variance = s .variance;
+      factors = take n (s .factors);
+      lowest = s .lowest;
+    }
 
 -- Rule 6.2: the segments that there are
 abbrev pub gridInUse : TimeGrid → TimeGrid

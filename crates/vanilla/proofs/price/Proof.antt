@@ -3,8 +3,7 @@ use mathlib.Core.Path.{_≡_, ap, _∙_}
 use Rattle.refusal.specs.Questions.{firstNo}
 use Rattle.refusal.specs.Inner.Asking.{orLater}
 use Rattle.model.specs.Simulation.{given}
-use Rattle.batch.specs.Questions.{strikeQuestions}
-use Rattle.vanilla.specs.Call.{VanillaInputs, vanillaInputs}
+use Rattle.vanilla.specs.Call.{VanillaInputs, vanillaInputs, termsQuestions}
 use Rattle.vanilla.proofs.Asked.{refused, is-ready, priced-through}
 use borrow.Author.Needs.{needs}
 use Rattle.vanilla.proofs.price.Statement.{statement}
@@ -20,14 +19,14 @@ inputs c =
     vanillaInputs (given (args .weights .now) (args .discounts .now) (args .model) (args .schedule)) (args .order) (args .draws .now)
 
 -- the outcome of the first questions
-first : (c : tie.After-or-later) → c .or-later .result ≡ orLater (c .before .before .prepare .result .outcome) (firstNo (strikeQuestions (start (c .before .before) .args .order .strike)))
-first c = c .or-later .ensures ∙ ap (orLater (c .before .before .prepare .result .outcome)) (c .before .strike-questions .ensures)
+first : (c : tie.After-or-later) → c .or-later .result ≡ orLater (c .before .before .prepare .result .outcome) (firstNo (termsQuestions (start (c .before .before) .args .order .terms)))
+first c = c .or-later .ensures ∙ ap (orLater (c .before .before .prepare .result .outcome)) (c .before .terms-questions .ensures)
 
 prepare-requires : tie.Need-prepare-requires
 prepare-requires c κs = search needs
 
-strike-questions-requires : tie.Need-strike-questions-requires
-strike-questions-requires c κs = search needs
+terms-questions-requires : tie.Need-terms-questions-requires
+terms-questions-requires c κs = search needs
 
 or-later-requires : tie.Need-or-later-requires
 or-later-requires c κs = search needs
@@ -52,8 +51,8 @@ enum-told c = search needs
 of-spot-requires : tie.Need-of-spot-requires
 of-spot-requires c κs = search needs
 
-vanilla-payoff-requires : tie.Need-vanilla-payoff-requires
-vanilla-payoff-requires c κs = search needs
+terms-payoff-requires : tie.Need-terms-payoff-requires
+terms-payoff-requires c κs = search needs
 
 price-requires : tie.Need-price-requires
 price-requires c κs =
@@ -78,21 +77,21 @@ returns-2 c =
     let asked = told .before .before in
     let given = asked .before .before in
     priced-through (inputs given) _ (given .prepare .result) (given .prepare .ensures) (first asked) (told .enum-told .given .1) (made .of-spot .result) (made .of-spot .ensures)
-    (paid .vanilla-payoff .ensures) (ran .price .ensures) (c .answer2 .ensures)
+    (paid .terms-payoff .ensures) (ran .price .ensures) (c .answer2 .ensures)
 
 pub price-spec : {M : Type 1} → statement M
 price-spec =
     tie.close
     (tie.spec
     prepare-requires
-    strike-questions-requires
+    terms-questions-requires
     or-later-requires
     enum-known-asked
     answer-requires
     returns
     enum-told
     of-spot-requires
-    vanilla-payoff-requires
+    terms-payoff-requires
     price-requires
     answer-requires-2
     same-length

@@ -9,9 +9,9 @@ use Rattle.refusal.specs.declared.Outcome.the-variants.{Passed}
 use Rattle.refusal.specs.Questions.{firstNo, each}
 use Rattle.refusal.proofs.Laws.{each-none, each-more, each-stops}
 use Rattle.batch.specs.Report.{squaredQuestions}
-use Rattle.paths.specs.Inner.Handed.{lastObservation}
+use Rattle.tally.specs.Inner.Rows.{lastObservation}
 use Rattle.estimates.proofs.Answers.{holds, fails}
-use Rattle.paths.proofs.Columns.{row-inside}
+use Rattle.tally.proofs.Columns.{row-inside}
 use Rattle.batch.proofs.Squared.{not-finite, not-above, above}
 use Rattle.batch.proofs.pricing.check_squared.Statement.{statement}
 use Rattle.batch.proofs.pricing.check_squared.Tie as tie

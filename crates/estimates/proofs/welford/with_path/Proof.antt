@@ -15,7 +15,7 @@ added-requires-2 c κs = search needs
 
 returns : tie.Need-returns
 returns c =
-    path-added _ _ _ (c .before .before .payoff-of .ensures) (c .before .added .ensures) (c .added2 .ensures)
+    path-added _ _ _ _ (c .before .before .payoff-of .ensures) (c .before .added .ensures) (c .added2 .ensures)
 
 pub with-path-spec : {M : Type 1} → statement M
 with-path-spec = tie.close (tie.spec payoff-of-requires added-requires added-requires-2 returns)

@@ -14,13 +14,13 @@ use Rattle.lanes.proofs.scheme.step_with.Statement.{statement}
 use Rattle.lanes.proofs.scheme.step_with.Tie as tie
 
 abbrev Inv-loop : tie.InvT-loop
-Inv-loop k p rates factors roots g old-spot old-z spot₀ forcing₀ l₀ spot forcing l =
+Inv-loop k p rates factors roots g old-spot old-z old-lowest spot₀ forcing₀ l₀ spot forcing l =
     (l ≤ 4) × (length spot ≡ 4) × (length forcing ≡ 4)
     × ((j : ℕ) → j < l → getD forcing j nan ≡ forcingOf p (rates .dt) (getD old-z j nan) (diffusionOf (rates .«sqrt_dt») (getD roots j nan) (getD g j nan)))
     × ((j : ℕ) → j < l → getD spot j nan ≡ plus (getD old-spot j nan) (times (getD old-spot j nan) (diffusionOf (rates .«sqrt_dt») (getD roots j nan) (getD g j nan))))
 
 abbrev μ-loop : tie.MeasureT-loop
-μ-loop k p rates factors roots g old-spot old-z spot₀ forcing₀ l₀ spot forcing l = 4 - l
+μ-loop k p rates factors roots g old-spot old-z old-lowest spot₀ forcing₀ l₀ spot forcing l = 4 - l
 
 loop-holds : tie.Need-loop-holds Inv-loop μ-loop
 loop-holds c = (omega arith, refl, refl, λ j h. absurd (omega arith), λ j h. absurd (omega arith))
@@ -76,7 +76,7 @@ loop-less c = search needs
 loop-again : tie.Need-loop-again Inv-loop μ-loop
 loop-again c =
     let at-loop = c .before .before .before .before .before in
-    let start = c .before .before .before .before .before .before .before .before .before in (
+    let start = c .before .before .before .before .before .before .before .before .before .before in (
       omega arith,
       search needs,
       search needs,
@@ -98,7 +98,7 @@ slice-aggregate-move-factors-2 c = search needs
 
 move-factors-requires : tie.Need-move-factors-requires Inv-loop μ-loop
 move-factors-requires c κs =
-    let start = c .before .before .before .before .before .before .before .before .before .before in
+    let start = c .before .before .before .before .before .before .before .before .before .before .before in
     (start .pre .0 .0, divisors-long start, weights-long start, start .pre .0 .1)
 
 array-read-variance-at : tie.Need-array-read-variance-at Inv-loop μ-loop
@@ -125,21 +125,26 @@ array-read-variance-at-4 c = search needs
 variance-at-requires-4 : tie.Need-variance-at-requires-4 Inv-loop μ-loop
 variance-at-requires-4 c κs = search needs
 
+lower-of-requires : tie.Need-lower-of-requires Inv-loop μ-loop
+lower-of-requires c κs = search needs
+
 same-length : tie.Need-same-length Inv-loop μ-loop
-same-length c = c .before .before .before .before .before .before .move-factors .ensures .long
+same-length c = c .before .before .before .before .before .before .before .move-factors .ensures .long
 
 returns : tie.Need-returns Inv-loop μ-loop
 returns c =
-    let moved = c .before .before .before .before .before .before .move-factors in
-    let left : tie.After-loop Inv-loop μ-loop = c .before .before .before .before .before .before .before .before .before .before .before .before in
-    let start = left .before .before .before .before .before in
+    let read = c .before in
+    let moved = read .before .before .before .before .before .before .move-factors in
+    let left : tie.After-loop Inv-loop μ-loop = read .before .before .before .before .before .before .before .before .before .before .before .before in
+    let start = left .before .before .before .before .before .before in
     let all : 4 ≤ left .before .loop .l = left .loop-test .left in
     lanes-stepped (start .args .t1) (start .args .k) (start .args .p) (start .args .s) (start .args .t5) (start .args .rates) _ _ _
     (left .before .loop .forcing) (start .pre .1) (moved .ensures) (λ l h. left .before .loop .inv .3 l (omega (arith, all)))
     (λ l h. left .before .loop .inv .4 l (omega (arith, all)))
     (four-of nan (λ (l : ℕ) (x : Float). x ≡ varianceAt (start .args .p) (getD (moved .result) l nan)) _ _ _ _
-    (c .before .before .before .variance-at .ensures) (c .before .before .variance-at2 .ensures) (c .before .variance-at3 .ensures)
-    (c .variance-at4 .ensures))
+    (read .before .before .before .variance-at .ensures) (read .before .before .variance-at2 .ensures) (read .before .variance-at3 .ensures)
+    (read .variance-at4 .ensures))
+    (c .lower-of .ensures)
 
 pub step-with-spec : {M : Type 1} → statement M
 step-with-spec =
@@ -176,5 +181,6 @@ step-with-spec =
     variance-at-requires-3
     array-read-variance-at-4
     variance-at-requires-4
+    lower-of-requires
     same-length
     returns)

@@ -17,7 +17,7 @@ variance-at-requires : tie.Need-variance-at-requires
 variance-at-requires c κs = search needs
 
 returns : tie.Need-returns
-returns c = read-take _ _ _ _ _ _ (c .before .weighted-sum .ensures) (c .variance-at .ensures)
+returns c = read-take _ _ _ _ _ _ _ (c .before .weighted-sum .ensures) (c .variance-at .ensures)
 
 pub read-spec : {M : Type 1} → statement M
 read-spec =

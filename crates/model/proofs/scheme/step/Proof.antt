@@ -17,17 +17,21 @@ slice-aggregate-move-factors-2 c = search needs
 move-factors-requires : tie.Need-move-factors-requires
 move-factors-requires c κs = search needs
 
+min-requires : tie.Need-min-requires
+min-requires c κs = search needs
+
 read-requires : tie.Need-read-requires
 read-requires c κs = search needs
 
 returns : tie.Need-returns
 returns c =
-    let moved = c .before .before .before in
+    let least = c .before in
+    let moved = least .before .before .before in
     let rooted = moved .before .before .before .before .before .before .before .before .before in
     let known = rooted .before .before in
     c .read .ensures
     ∙ step-take (known .args .k) (known .args .p) (known .args .s) (known .args .g) (known .args .rates) _ (known .pre .0)
-    (known .pre .1) _ (rooted .sqrt .ensures .0) (moved .move-factors .ensures)
+    (known .pre .1) _ _ (rooted .sqrt .ensures .0) (least .min .ensures) (moved .move-factors .ensures)
 
 pub step-spec : {M : Type 1} → statement M
 step-spec =
@@ -37,5 +41,6 @@ step-spec =
     slice-aggregate-move-factors
     slice-aggregate-move-factors-2
     move-factors-requires
+    min-requires
     read-requires
     returns)

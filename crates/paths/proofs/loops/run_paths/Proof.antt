@@ -1,19 +1,17 @@
 -- `loops::run_paths` meets its contract. The loops' invariants and what a turn does to them are in
--- `proofs/Turns.antt`, what the code is handed in `proofs/Handed.antt`, and the claim in
--- `proofs/Claim.antt`. Assumes nothing.
+-- `proofs/Turns.antt`, what a group of four does to them in `proofs/Groups.antt`, and what the code
+-- is handed in `walks/proofs/Handed.antt`. Assumes nothing.
 use mathlib.Core.Path.{_≡_, refl, sym, _∙_, ap, subst}
-use mathlib.Core.Bool.{_||_}
-use mathlib.Core.List.{List}
+use mathlib.Core.List.{List, [], _∷_}
 use mathlib.Core.Logic.{⊎-elim}
 use Prim.Native.Nat.{ℕ, suc, _+_, _*_, _-_, _<_, _≤_}
-use native.Mathlib.Nat.{le-trans, le-of-eq, mul-le-mul}
+use native.Mathlib.Nat.{mul-le-mul}
 use native.Mathlib.Omega.{arith}
 use lib.Dec.{T, leb→le}
 use borrow.Author.Needs.{needs}
-use lib.ListN.{length, getD, take}
-use lib.Ieee.{Float, nan, le}
-use lib.Seq.{getD-take, length-take-le}
-use Rattle.numeric.specs.Double.{plusZero}
+use lib.ListN.{length, getD}
+use lib.Ieee.{Float, nan}
+use lib.Seq.{getD-take}
 use Rattle.model.specs.declared.Finiteness.the-variants.{Finite}
 use Rattle.model.specs.Inner.Laid.{Laid}
 use Rattle.model.specs.Inner.Rates.{RatesOf}
@@ -25,29 +23,27 @@ use Rattle.model.proofs.Laws.{rates-own}
 use Rattle.model.proofs.Containment.{laid-in-use, reached-open}
 use Rattle.walks.specs.Batch.{Batch, drawOf}
 use Rattle.walks.specs.Inner.Handed.{batchOf}
-use Rattle.numeric.proofs.Doubles.{zero-is}
 use Rattle.walks.proofs.Cells.{row-last}
-use Rattle.walks.proofs.Flags.{raised, left-low, count-up, count-left}
 use Rattle.walks.proofs.Handed.{finite-in-use, draws-within, observed-in-use, step-in-use}
-use Rattle.paths.proofs.Turns.{Inner, Outer, Small, small, turn-first, next-state, turn-on, turn-write, path-first, path-tallied, path-next, run-ends, entries-end, run-done, entries-done}
-use Rattle.groups.specs.declared.Together.{Together}
-use Rattle.groups.specs.Inner.Group.{Walks, FourWalked}
-use Rattle.paths.proofs.Groups.{SmallGroup, small-group, four-tallied, path-four}
+use Rattle.paths.proofs.Turns.{Inner, Outer, Small, small, turn-first, next-state, turn-on, turn-write, path-first, row-long, path-tallied, path-next, run-ends, entries-end, run-done, entries-done}
+use Rattle.paths.proofs.Groups.{SmallGroup, small-group, path-four}
 use Rattle.estimates.specs.declared.Payoff.{Payoff}
+use Rattle.paths.specs.declared.loops.Group.{Group}
 use Rattle.paths.specs.declared.Run.{Run}
 use Rattle.paths.specs.Run.{tableAfter}
-use Rattle.paths.specs.Inner.Handed.{runAnswer, BatchRun}
+use Rattle.paths.specs.Inner.Handed.{GroupWalked, Grouped, runAnswer, BatchRun}
+use Rattle.tally.proofs.Tallying.{fallen-few}
 use Rattle.paths.proofs.Whole.{whole}
 use Rattle.paths.proofs.loops.run_paths.Statement.{statement}
 use Rattle.paths.proofs.loops.run_paths.Tie as tie
 
 abbrev Inv-loop : tie.InvT-loop
-Inv-loop batch payoff draws observations₀ mirrored paths observation observed k p start sched total count first sums failed₀ steps₀ non-positive path next-group s₀ rates₀ segment₀ at₀ low₀ observations failed steps s rates segment at low =
-    Inner (batchOf batch draws) path observations₀ observations steps segment at (stateInUse (batch .simulation .kernel .n) s) low
+Inv-loop batch payoff draws observations₀ mirrored paths observation observed k p start sched total count first sums failed₀ steps₀ non-positive path next-group s₀ rates₀ segment₀ at₀ observations failed steps s rates segment at =
+    Inner (batchOf batch draws) path observations₀ observations steps segment at (stateInUse (batch .simulation .kernel .n) s)
     × RatesOf (batch .simulation .kernel) (getD (batch .simulation .grid .dt) segment nan) (getD (batch .simulation .grid .«sqrt_dt») segment nan) rates
 
 abbrev μ-loop : tie.MeasureT-loop
-μ-loop batch payoff draws observations₀ mirrored paths observation observed k p start sched total count first sums failed₀ steps₀ non-positive path next-group s₀ rates₀ segment₀ at₀ low₀ observations failed steps s rates segment at low =
+μ-loop batch payoff draws observations₀ mirrored paths observation observed k p start sched total count first sums failed₀ steps₀ non-positive path next-group s₀ rates₀ segment₀ at₀ observations failed steps s rates segment at =
     total - at
 
 abbrev Inv-paths : tie.InvT-paths
@@ -58,8 +54,8 @@ abbrev μ-paths : tie.MeasureT-paths
 μ-paths batch payoff draws observations₀ mirrored paths observation observed k p start sched total count first sums₀ failed₀ steps₀ non-positive₀ path₀ next-group₀ observations sums failed steps non-positive path next-group =
     paths - path
 
--- ---- the places of the code that the answers name: the entry, a turn of the path loop, a turn of
--- the step loop, the step taken, and the flag set after it
+-- ---- the places of the code that the answers name: the entry, a turn of the path loop, a path
+-- that begins, a turn of the step loop, the step taken, and one that is finite
 
 abbrev Entry : Type 0
 Entry = tie.Start Inv-loop μ-loop Inv-paths μ-paths
@@ -67,14 +63,17 @@ Entry = tie.Start Inv-loop μ-loop Inv-paths μ-paths
 abbrev Path : Type 0
 Path = tie.In-paths Inv-loop μ-loop Inv-paths μ-paths
 
+abbrev Begun : Type 0
+Begun = tie.Joined1-2 Inv-loop μ-loop Inv-paths μ-paths
+
 abbrev Turn : Type 0
 Turn = tie.In-loop Inv-loop μ-loop Inv-paths μ-paths
 
 abbrev Stepped : Type 0
 Stepped = tie.After-step Inv-loop μ-loop Inv-paths μ-paths
 
-abbrev Flagged : Type 0
-Flagged = tie.Joined3 Inv-loop μ-loop Inv-paths μ-paths
+abbrev Going : Type 0
+Going = tie.After-enum-told2 Inv-loop μ-loop Inv-paths μ-paths
 
 abbrev given-at : tie.After-sched Inv-loop μ-loop Inv-paths μ-paths → Entry
 given-at c = c .before .before .before .before .before .before .before .before
@@ -82,14 +81,17 @@ given-at c = c .before .before .before .before .before .before .before .before
 abbrev entry : Path → Entry
 entry c = given-at (c .before .before .before .before)
 
+abbrev begun-of : Turn → Begun
+begun-of c = c .before .before
+
 abbrev path-of : Turn → Path
-path-of c = c .before .before .before
+path-of c = begun-of c .before
 
 abbrev turn-of : Stepped → Turn
 turn-of c = c .before .before
 
-abbrev step-of : Flagged → Stepped
-step-of c = c .before .before .before .before .before
+abbrev step-of : Going → Stepped
+step-of c = c .before .before .before
 
 laid-at : (c : Entry) → Laid (gridInUse (c .args .batch .simulation .grid))
 laid-at c = laid-in-use (c .args .batch .simulation .grid) (c .pre .laid)
@@ -108,143 +110,107 @@ paths-holds c =
 
 -- ---- a group of four paths
 
-within : (c : tie.Then2 Inv-loop μ-loop Inv-paths μ-paths) → c .before .before .before .paths .path + 4 ≤ entry (c .before .before) .args .batch .paths
-within c = leb→le _ _ (subst T (sym (c .if2 .taken)) tt)
-
 add-if2 : tie.Need-add-if2 Inv-loop μ-loop Inv-paths μ-paths
 add-if2 c = omega (arith, c .before .paths-test .taken, entry (c .before) .pre .most)
 
-slice-aggregate-walk-four : tie.Need-slice-aggregate-walk-four Inv-loop μ-loop Inv-paths μ-paths
-slice-aggregate-walk-four c = refl
+within : (c : tie.Then2 Inv-loop μ-loop Inv-paths μ-paths) → c .before .before .before .paths .path + 4 ≤ entry (c .before .before) .args .batch .paths
+within c = leb→le _ _ (subst T (sym (c .if2 .taken)) tt)
 
-walk-four-requires : tie.Need-walk-four-requires Inv-loop μ-loop Inv-paths μ-paths
-walk-four-requires c κs =
+walk-group-requires : tie.Need-walk-group-requires Inv-loop μ-loop Inv-paths μ-paths
+walk-group-requires c κs =
     let path : Path = c .before .before .before in
     let given = entry path .pre in
+    let before = path .before .paths .inv in
     record {
-      few = given .admitted .few;
-      form = given .form;
-      laid = given .laid;
-      most = omega (arith, path .paths-test .taken, given .most);
-      drawn = λ l h. rw (given .drawn) (draws-within (entry path .args .batch .mirrored) _ _ _ (given .pairs) (omega (arith, within (c .before))));
-      rows-long = refl;
+      prepared =
+          record {
+            admitted = given .admitted;
+            form = given .form;
+            laid = given .laid;
+            most = given .most;
+            pairs = given .pairs;
+            drawn = given .drawn;
+            rows = before .long;
+          };
+      within = within (c .before);
+      tallied = before .tallied;
     }
 
 enum-known-fell : tie.Need-enum-known-fell Inv-loop μ-loop Inv-paths μ-paths
 enum-known-fell c = search needs
 
--- the group, once it is walked, and what was written of it
-abbrev Group : Type 0
-Group = tie.After-known-told Inv-loop μ-loop Inv-paths μ-paths
+-- the group, once it is walked
+abbrev Grouping : Type 0
+Grouping = tie.After-known-told Inv-loop μ-loop Inv-paths μ-paths
 
-abbrev path-of-group : Group → Path
-path-of-group c = c .before .before .before .before .before .before .before .before
+module _ (c : Grouping) where
+  abbrev called : tie.After-walk-group Inv-loop μ-loop Inv-paths μ-paths
+  called = c .before .before .before .before .before
 
-abbrev group-of : tie.After-slice-known2 Inv-loop μ-loop Inv-paths μ-paths → Group
-group-of c = c .before .before .before .before .before
+  abbrev path-of-group : Path
+  path-of-group = called .before .before .before .before
 
-module _ (c : Group) where
-  abbrev given-group : Entry
-  given-group = entry (path-of-group c)
-
-  abbrev rows : List Float
-  rows = c .before .before .before .before .walk-four .last .1 .1 .1 .0
-
-  group-within : path-of-group c .before .paths .path + 4 ≤ given-group .args .batch .paths
-  group-within = within (c .before .before .before .before .before .before)
+  group-within : path-of-group .before .paths .path + 4 ≤ entry path-of-group .args .batch .paths
+  group-within = within (called .before .before)
 
   -- its numbers
-  group-small : SmallGroup (path-of-group c .before .paths .path) (given-group .args .batch .simulation .grid .total) (given-group .args .batch .simulation .grid .count) (length (path-of-group c .before .paths .observations))
+  group-small : SmallGroup (path-of-group .before .paths .path) (entry path-of-group .args .batch .simulation .grid .total) (entry path-of-group .args .batch .simulation .grid .count) (length (path-of-group .before .paths .observations))
   group-small =
-      let given = given-group .pre in
-      small-group _ _ _ _ _ (given .most) (given .laid .short) (given .laid .few) group-within (path-of-group c .before .paths .inv .long)
+      let given = entry path-of-group .pre in
+      small-group _ _ _ _ _ (given .most) (given .laid .short) (given .laid .few) group-within (path-of-group .before .paths .inv .long)
 
   -- and its walks
-  walked : FourWalked (batchOf (given-group .args .batch) (given-group .args .draws .now)) (path-of-group c .before .paths .path) rows (c .before .fell .given .0 .0)
-  walked =
-      let e = given-group in
-      subst (λ (r : Together). Walks (batchOf (e .args .batch) (e .args .draws .now)) (path-of-group c .before .paths .path) rows r)
-      (c .before .fell .given .1) (c .before .before .before .before .walk-four .ensures .1)
-
-  rows-fit : 4 * given-group .args .batch .simulation .grid .count ≤ length rows
-  rows-fit = le-trans (group-small .rows) (le-of-eq (sym (c .before .before .before .before .walk-four .ensures .0)))
-
-  part-long : length (take (4 * given-group .args .batch .simulation .grid .count) rows) ≡ 4 * given-group .args .batch .simulation .grid .count
-  part-long = length-take-le _ _ rows-fit
-
-mul-rows : tie.Need-mul-rows Inv-loop μ-loop Inv-paths μ-paths
-mul-rows c = omega (arith, group-small c)
-
-array-share-prefix-rows : tie.Need-array-share-prefix-rows Inv-loop μ-loop Inv-paths μ-paths
-array-share-prefix-rows c = rows-fit c
-
-slice-aggregate-write-rows : tie.Need-slice-aggregate-write-rows Inv-loop μ-loop Inv-paths μ-paths
-slice-aggregate-write-rows c = sym (part-long (c .before))
-
-mul-write-rows : tie.Need-mul-write-rows Inv-loop μ-loop Inv-paths μ-paths
-mul-write-rows c = omega (arith, group-small (c .before))
-
-write-rows-requires : tie.Need-write-rows-requires Inv-loop μ-loop Inv-paths μ-paths
-write-rows-requires c κs =
-    let group : Group = c .before .before in
-    let path : Path = path-of-group group in
-    subst (λ (x : ℕ). path .before .paths .path * entry path .args .batch .simulation .grid .count + x ≤ length (path .before .paths .observations))
-    (sym (part-long group)) (group-small group .cells)
-
--- what the rows of the group show the payoff
-mul-rows-2 : tie.Need-mul-rows-2 Inv-loop μ-loop Inv-paths μ-paths
-mul-rows-2 c = omega (arith, group-small (group-of c))
-
-array-share-prefix-rows-2 : tie.Need-array-share-prefix-rows-2 Inv-loop μ-loop Inv-paths μ-paths
-array-share-prefix-rows-2 c = rows-fit (group-of c)
-
-slice-aggregate-with-rows : tie.Need-slice-aggregate-with-rows Inv-loop μ-loop Inv-paths μ-paths
-slice-aggregate-with-rows c = sym (part-long (group-of (c .before)))
-
-with-rows-requires : tie.Need-with-rows-requires Inv-loop μ-loop Inv-paths μ-paths
-with-rows-requires c κs = given-group (group-of (c .before)) .pre .laid .some
-
-abbrev tallied-of : tie.After-with-rows Inv-loop μ-loop Inv-paths μ-paths → Group
-tallied-of c = group-of (c .before .before)
+  group-walks : GroupWalked (batchOf (entry path-of-group .args .batch) (entry path-of-group .args .draws .now)) (entry path-of-group .args .payoff) (path-of-group .before .paths .path) (path-of-group .before .paths .observations) (called .walk-group .last .1 .1 .1 .1 .1 .0) (c .before .fell .given .0 .0) (c .before .fell .given .0 .1 .0)
+  group-walks =
+      let e = entry path-of-group in
+      subst (λ (r : Group). Grouped (batchOf (e .args .batch) (e .args .draws .now)) (e .args .payoff) (path-of-group .before .paths .path) (path-of-group .before .paths .observations) (called .walk-group .last .1 .1 .1 .1 .1 .0) r)
+      (c .before .fell .given .1) (called .walk-group .ensures)
 
 mul-steps : tie.Need-mul-steps Inv-loop μ-loop Inv-paths μ-paths
-mul-steps c = omega (arith, group-small (tallied-of c))
+mul-steps c = omega (arith, group-small c)
 
 add-steps : tie.Need-add-steps Inv-loop μ-loop Inv-paths μ-paths
-add-steps c = omega (arith, group-small (tallied-of c), path-of-group (tallied-of c) .before .paths .inv .counted)
+add-steps c = omega (arith, group-small c, path-of-group c .before .paths .inv .counted)
 
 add-non-positive : tie.Need-add-non-positive Inv-loop μ-loop Inv-paths μ-paths
 add-non-positive c =
-    let group : Group = tallied-of c in
-    let before = path-of-group group .before .paths .inv in
-    omega (arith, walked group .few, before .few, before .most, given-group group .pre .most)
+    let before = path-of-group c .before .paths .inv in
+    omega (arith, group-walks c .few, before .few, before .most, entry (path-of-group c) .pre .most)
 
 add-path : tie.Need-add-path Inv-loop μ-loop Inv-paths μ-paths
-add-path c = let group : Group = tallied-of c in omega (arith, group-within group, given-group group .pre .most)
+add-path c = omega (arith, group-within c, entry (path-of-group c) .pre .most)
 
 paths-less : tie.Need-paths-less Inv-loop μ-loop Inv-paths μ-paths
-paths-less c = let group : Group = tallied-of c in omega (arith, group-within group)
+paths-less c = omega (arith, group-within c)
 
 paths-again : tie.Need-paths-again Inv-loop μ-loop Inv-paths μ-paths
-paths-again c =
-    let group : Group = tallied-of c in
-    let before = path-of-group group .before .paths .inv in
-    path-four before (group-within group) (walked group) _ (rows-fit group) (c .before .before .before .before .write-rows .ensures) _ _ _ refl refl
-    (four-tallied before (group-within group) (walked group) (rows-fit group) (given-group group .pre .laid .some) (c .with-rows .ensures))
+paths-again c = path-four (path-of-group c .before .paths .inv) (group-within c) (group-walks c)
 
 enum-told : tie.Need-enum-told Inv-loop μ-loop Inv-paths μ-paths
 enum-told c = search needs
 
 add-next-group : tie.Need-add-next-group Inv-loop μ-loop Inv-paths μ-paths
 add-next-group c =
-    let path : Path = c .before .before .before .before .before .before .before in omega (arith, path .paths-test .taken, entry path .pre .most)
+    let path : Path = c .before .before .before .before .before .before .before .before in omega (arith, path .paths-test .taken, entry path .pre .most)
 
 -- ---- a path begins
+
+-- a group that is not sure leaves the table as it was
+outer-now : (c : Begun) → Outer (batchOf (entry (c .before) .args .batch) (entry (c .before) .args .draws .now)) (entry (c .before) .args .payoff) (entry (c .before) .args .observations .now) (c .if1 .observations) (c .before .before .paths .steps) (c .before .before .paths .non-positive) (c .before .before .paths .path) (c .before .before .paths .sums)
+outer-now c =
+    let path : Path = c .before in
+    let b = batchOf (entry path .args .batch) (entry path .args .draws .now) in
+    let same : c .if1 .observations ≡ path .before .paths .observations =
+    ⊎-elim
+    (λ w. w .8 ∙ subst (λ (r : Group). Grouped b (entry path .args .payoff) (path .before .paths .path) (path .before .paths .observations) (w .3 .last .1 .1 .1 .1 .1 .0) r) (w .7 .given .1) (w .3 .ensures))
+    (λ w. w .1) (c .if1 .came) in
+    subst (λ (seen : List Float). Outer b (entry path .args .payoff) (entry path .args .observations .now) seen (path .before .paths .steps) (path .before .paths .non-positive) (path .before .paths .path) (path .before .paths .sums))
+    (sym same) (path .before .paths .inv)
 
 loop-holds : tie.Need-loop-holds Inv-loop μ-loop Inv-paths μ-paths
 loop-holds c =
     let path : Path = c .before in
-    (turn-first (laid-at (entry path)) (path .before .paths .inv .counted) (path .before .paths .inv .long), path .before .before .before .rates-at .ensures)
+    (turn-first (laid-at (entry path)) (path .before .paths .inv .counted) (outer-now c .long), path .before .before .before .rates-at .ensures)
 
 -- ---- a step: what it asks
 
@@ -281,11 +247,11 @@ add-number c = omega (arith, small-at (turn-of (c .before .before .before .befor
 enum-told-2 : tie.Need-enum-told-2 Inv-loop μ-loop Inv-paths μ-paths
 enum-told-2 c = search needs
 
-mul-if4 : tie.Need-mul-if4 Inv-loop μ-loop Inv-paths μ-paths
-mul-if4 c = omega (arith, small-at (turn-of (step-of c)))
+mul-if3 : tie.Need-mul-if3 Inv-loop μ-loop Inv-paths μ-paths
+mul-if3 c = omega (arith, small-at (turn-of (step-of c)))
 
-element-copy-out-if4 : tie.Need-element-copy-out-if4 Inv-loop μ-loop Inv-paths μ-paths
-element-copy-out-if4 c = omega (arith, small-at (turn-of (step-of c)))
+element-copy-out-if3 : tie.Need-element-copy-out-if3 Inv-loop μ-loop Inv-paths μ-paths
+element-copy-out-if3 c = omega (arith, small-at (turn-of (step-of c)))
 
 observe-requires : tie.Need-observe-requires Inv-loop μ-loop Inv-paths μ-paths
 observe-requires c κs =
@@ -325,18 +291,11 @@ module _ (c : Stepped) where
   stepped =
       step-in-use (given .args .batch .simulation .grid) (given .pre .laid) _ _ (turn-of c .before .loop .inv .0 .reached) (open-at (turn-of c)) (given .args .batch .simulation .kernel) (turn-of c .before .loop .rates) (turn-of c .before .loop .inv .1) _ _ _ _ _ _ (c .before .draw-at .ensures) (c .step .ensures)
 
-module _ (c : Flagged) where
+module _ (c : Going) where
   finite-now : finiteness (stateInUse (given (step-of c) .args .batch .simulation .kernel .n) (step-of c .step .result)) ≡ Finite
   finite-now =
-      finite-in-use (given (step-of c) .args .batch .simulation .kernel .n) (step-of c .step .result) ∙ sym (c .before .before .before .before .ensure-finite .ensures)
-      ∙ c .before .before .enum-told2 .given .1
-
-  -- the flag of a non-positive path
-  low-now : c .if3 .low ≡ (turn-of (step-of c) .before .loop .low || le (step-of c .step .result .spot) plusZero)
-  low-now =
-      let zero = ap (le (step-of c .step .result .spot)) (sym zero-is) in
-      let low = turn-of (step-of c) .before .loop .low in
-      ⊎-elim (λ w. raised low _ _ (zero ∙ w .0 .taken) (w .1)) (λ w. left-low low _ _ (zero ∙ w .0 .left) (w .1)) (c .if3 .came)
+      finite-in-use (given (step-of c) .args .batch .simulation .kernel .n) (step-of c .step .result) ∙ sym (c .before .before .ensure-finite .ensures)
+      ∙ c .enum-told2 .given .1
 
   -- the last step of the segment
   last-now : getD (given (step-of c) .args .batch .simulation .grid .last) (turn-of (step-of c) .before .loop .segment) 0 ≡ lastStep (gridInUse (given (step-of c) .args .batch .simulation .grid)) (suc (turn-of (step-of c) .before .loop .segment))
@@ -349,11 +308,11 @@ loop-less c = omega arith
 -- with an observation
 loop-again : tie.Need-loop-again Inv-loop μ-loop Inv-paths μ-paths
 loop-again c =
-    let flagged : Flagged = c .before .before .before .before in
-    let turn : Turn = turn-of (step-of flagged) in
+    let going : Going = c .before .before .before .before in
+    let turn : Turn = turn-of (step-of going) in
     let handed : Entry = entry (path-of turn) in (
-      turn-write (laid-at handed) (turn .before .loop .inv .0) (turn .loop-test .taken) (stepped (step-of flagged)) (finite-now flagged)
-          (low-now flagged) (path-of turn .paths-test .taken) (c .before .before .if4 .taken ∙ last-now flagged)
+      turn-write (laid-at handed) (turn .before .loop .inv .0) (turn .loop-test .taken) (stepped (step-of going)) (finite-now going)
+          (path-of turn .paths-test .taken) (c .before .before .if3 .taken ∙ last-now going)
           (c .before .observe .ensures ∙ observed-in-use (handed .args .batch .observation .observed) (handed .args .batch .observation .form) (handed .args .batch .simulation .kernel .n) (handed .pre .form) _),
       c .rates-at2 .ensures,
     )
@@ -364,26 +323,21 @@ loop-less-2 c = omega arith
 -- and without one
 loop-again-2 : tie.Need-loop-again-2 Inv-loop μ-loop Inv-paths μ-paths
 loop-again-2 c =
-    let flagged : Flagged = c .before .before in
-    let turn : Turn = turn-of (step-of flagged) in (
-      turn-on (laid-at (entry (path-of turn))) (turn .before .loop .inv .0) (turn .loop-test .taken) (stepped (step-of flagged)) (finite-now flagged)
-          (low-now flagged) (λ e. c .if4 .left (e ∙ sym (last-now flagged))),
+    let going : Going = c .before .before in
+    let turn : Turn = turn-of (step-of going) in (
+      turn-on (laid-at (entry (path-of turn))) (turn .before .loop .inv .0) (turn .loop-test .taken) (stepped (step-of going)) (finite-now going)
+          (λ e. c .if3 .left (e ∙ sym (last-now going))),
       turn .before .loop .inv .1,
     )
 
 -- ---- a path ends
 
-add-non-positive-2 : tie.Need-add-non-positive-2 Inv-loop μ-loop Inv-paths μ-paths
-add-non-positive-2 c =
-    let path : Path = c .before .before .before .before in
-    omega (arith, path .before .paths .inv .few, path .paths-test .taken, entry path .pre .most)
-
 -- its row, of which the last entry goes to the tally
 abbrev Ended : Type 0
-Ended = tie.Joined5 Inv-loop μ-loop Inv-paths μ-paths
+Ended = tie.After-loop Inv-loop μ-loop Inv-paths μ-paths
 
 abbrev path-ended : Ended → Path
-path-ended c = c .before .before .before .before
+path-ended c = c .before .before .before
 
 -- the numbers of a row are small
 row-small : (c : Path) → (c .before .paths .path * entry c .args .batch .simulation .grid .count + entry c .args .batch .simulation .grid .count ≤ entry c .args .batch .paths * entry c .args .batch .simulation .grid .count)
@@ -395,27 +349,50 @@ row-small c =
 mul-begin : tie.Need-mul-begin Inv-loop μ-loop Inv-paths μ-paths
 mul-begin c = omega (arith, row-small (path-ended c))
 
-add-end : tie.Need-add-end Inv-loop μ-loop Inv-paths μ-paths
-add-end c = omega (arith, row-small (path-ended c))
+mul-row : tie.Need-mul-row Inv-loop μ-loop Inv-paths μ-paths
+mul-row c = omega (arith, row-small (path-ended c))
 
-mul-with-rows : tie.Need-mul-with-rows Inv-loop μ-loop Inv-paths μ-paths
-mul-with-rows c = omega (arith, row-small (path-ended c))
+sub-row : tie.Need-sub-row Inv-loop μ-loop Inv-paths μ-paths
+sub-row c = omega (arith, row-small (path-ended c), c .before .loop .inv .0 .long)
 
-sub-with-rows : tie.Need-sub-with-rows Inv-loop μ-loop Inv-paths μ-paths
-sub-with-rows c = omega arith
+part-row-start : tie.Need-part-row-start Inv-loop μ-loop Inv-paths μ-paths
+part-row-start c = omega (arith, row-small (path-ended (c .before)), c .before .before .loop .inv .0 .long)
 
-part-with-rows-start : tie.Need-part-with-rows-start Inv-loop μ-loop Inv-paths μ-paths
-part-with-rows-start c = omega arith
+part-row-end : tie.Need-part-row-end Inv-loop μ-loop Inv-paths μ-paths
+part-row-end c = omega arith
 
-part-with-rows-end : tie.Need-part-with-rows-end Inv-loop μ-loop Inv-paths μ-paths
-part-with-rows-end c = omega (arith, row-small (path-ended (c .before)), c .before .before .before .loop .inv .0 .long)
+slice-aggregate-fallen : tie.Need-slice-aggregate-fallen Inv-loop μ-loop Inv-paths μ-paths
+slice-aggregate-fallen c = refl
 
-with-rows-requires-2 : tie.Need-with-rows-requires-2 Inv-loop μ-loop Inv-paths μ-paths
-with-rows-requires-2 c κs = entry (path-ended (c .before .before)) .pre .laid .some
+fallen-requires : tie.Need-fallen-requires Inv-loop μ-loop Inv-paths μ-paths
+fallen-requires c κs = search needs
+
+-- where its lowest spot is counted
+abbrev Counted : Type 0
+Counted = tie.After-fallen Inv-loop μ-loop Inv-paths μ-paths
+
+abbrev end-of : Counted → Ended
+end-of c = c .before .before .before .before
+
+add-non-positive-2 : tie.Need-add-non-positive-2 Inv-loop μ-loop Inv-paths μ-paths
+add-non-positive-2 c =
+    let path : Path = path-ended (end-of c) in
+    omega (arith, path .before .paths .inv .few, path .paths-test .taken, entry path .pre .most, c .fallen .ensures, fallen-few (end-of c .before .loop .s .lowest ∷ []) 1)
+
+slice-aggregate-with-rows : tie.Need-slice-aggregate-with-rows Inv-loop μ-loop Inv-paths μ-paths
+slice-aggregate-with-rows c = refl
+
+with-rows-requires : tie.Need-with-rows-requires Inv-loop μ-loop Inv-paths μ-paths
+with-rows-requires c κs =
+    let ended : Ended = end-of (c .before) in
+    let path : Path = path-ended ended in (
+      entry path .pre .laid .some,
+      row-long (laid-at (entry path)) (outer-now (ended .before .before)) (path .paths-test .taken) (ended .before .loop .inv .0),
+    )
 
 add-path-2 : tie.Need-add-path-2 Inv-loop μ-loop Inv-paths μ-paths
 add-path-2 c =
-    let path : Path = path-ended (c .before .before .before) in
+    let path : Path = path-ended (end-of (c .before .before)) in
     omega (arith, path .paths-test .taken, entry path .pre .most)
 
 paths-less-2 : tie.Need-paths-less-2 Inv-loop μ-loop Inv-paths μ-paths
@@ -423,14 +400,15 @@ paths-less-2 c = omega arith
 
 paths-again-2 : tie.Need-paths-again-2 Inv-loop μ-loop Inv-paths μ-paths
 paths-again-2 c =
-    let ended : Ended = c .before .before .before in
+    let counted : Counted = c .before .before in
+    let ended : Ended = end-of counted in
     let path : Path = path-ended ended in
-    let low = path .before .paths .non-positive in
-    let before = path .before .paths .inv in
-    let inner = ended .before .before .loop .inv .0 in
-    path-next (laid-at (entry path)) before (path .paths-test .taken) inner (ended .before .loop-test .left)
-    (⊎-elim (λ w. count-up low _ _ (w .0 .taken) (w .1)) (λ w. count-left low _ _ (w .0 .left) (w .1)) (ended .if5 .came))
-    (path-tallied (laid-at (entry path)) before (path .paths-test .taken) inner (ended .before .loop-test .left) (c .with-rows2 .ensures))
+    let given : Entry = entry path in
+    let before = outer-now (ended .before .before) in
+    let inner = ended .before .loop .inv .0 in
+    path-next (laid-at given) before (path .paths-test .taken) inner (ended .loop-test .left) (given .pre .admitted)
+    (ap (path .before .paths .non-positive +_) (counted .fallen .ensures))
+    (path-tallied (laid-at given) before (path .paths-test .taken) inner (ended .loop-test .left) (c .with-rows .ensures))
 
 -- ---- the run ends
 
@@ -454,11 +432,12 @@ returns : tie.Need-returns Inv-loop μ-loop Inv-paths μ-paths
 returns c =
     let handed : Entry = left-of (c .before) in
     let laid = laid-at handed in
-    let before = c .before .before .paths .inv in
-    ⊎-elim (λ w. absurd (omega (arith, w .0 .left, c .if6 .taken)))
+    ⊎-elim (λ w. absurd (omega (arith, w .0 .left, c .if4 .taken)))
     (λ w.
+    let begun : Begun = record { before = record { before = c .before .before; paths-test = w .0 }; if1 = w .1 } in
+    let before = outer-now begun in
     let taken : Stepped =
-    record { before = record { before = record { before = record { before = record { before = record { before = c .before .before; paths-test = w .0 }; if1 = w .1 }; loop = w .2 }; loop-test = w .3 }; draw-at = w .4 }; step = w .5 } in
+    record { before = record { before = record { before = record { before = begun; loop = w .2 }; loop-test = w .3 }; draw-at = w .4 }; step = w .5 } in
     let state = next-state laid (w .2 .inv .0) (w .3 .taken) (stepped taken) in
     let fails = finite-in-use (handed .args .batch .simulation .kernel .n) (w .5 .result) ∙ sym (w .6 .ensures) ∙ w .8 .given .1 in
     ran
@@ -481,7 +460,7 @@ returns-2 c =
     ran (rw (w .3) (sym (run-done laid before (w .0 .left))))
     (whole _ _ _ (laid .some) (handed .pre .rows) (long-left (c .before))
     (λ q j l m. rw (w .1) (entries-done laid before (w .0 .left) q j l m))))
-    (λ w. absurd (omega (arith, w .0 .taken, c .if6 .left))) (c .before .paths-test .came)
+    (λ w. absurd (omega (arith, w .0 .taken, c .if4 .left))) (c .before .paths-test .came)
 
 pub run-paths-spec : {M : Type 1} → statement M
 run-paths-spec =
@@ -495,18 +474,8 @@ run-paths-spec =
     no-paths-requires
     paths-holds
     add-if2
-    slice-aggregate-walk-four
-    walk-four-requires
+    walk-group-requires
     enum-known-fell
-    mul-rows
-    array-share-prefix-rows
-    slice-aggregate-write-rows
-    mul-write-rows
-    write-rows-requires
-    mul-rows-2
-    array-share-prefix-rows-2
-    slice-aggregate-with-rows
-    with-rows-requires
     mul-steps
     add-steps
     add-non-positive
@@ -524,8 +493,8 @@ run-paths-spec =
     enum-known-quantity
     add-number
     enum-told-2
-    mul-if4
-    element-copy-out-if4
+    mul-if3
+    element-copy-out-if3
     observe-requires
     mul-observations
     add-observations
@@ -537,14 +506,16 @@ run-paths-spec =
     loop-again
     loop-less-2
     loop-again-2
-    add-non-positive-2
     mul-begin
-    add-end
-    mul-with-rows
-    sub-with-rows
-    part-with-rows-start
-    part-with-rows-end
-    with-rows-requires-2
+    mul-row
+    sub-row
+    part-row-start
+    part-row-end
+    slice-aggregate-fallen
+    fallen-requires
+    add-non-positive-2
+    slice-aggregate-with-rows
+    with-rows-requires
     add-path-2
     paths-less-2
     paths-again-2
