@@ -1,6 +1,9 @@
 // The path and step loops.
+ghost use mathlib.Core.Path.{_≡_};
+ghost use Prim.Native.Nat.{_<_};
 ghost use Rattle.walks.specs.Inner.Handed.{batchOf};
-ghost use Rattle.paths.specs.Inner.Handed.{Prepared, GroupReady, Grouped, BatchRun};
+ghost use Rattle.paths.specs.Inner.Handed.{Prepared, GroupReady, Grouped};
+ghost use Rattle.paths.specs.Inner.Handed.{stoppedAt, BatchRun};
 use crate::Run;
 use crate::Walked;
 use estimates::Payoff;
@@ -8,6 +11,7 @@ use estimates::Tally;
 use estimates::welford;
 use model::Finiteness;
 use model::scheme;
+use refusal::Quantity;
 use refusal::Refusal;
 use walks::Batch;
 
@@ -47,6 +51,23 @@ fn walk_group(
     Group::Walked {
         fell: tally::fallen(&lowest[..]),
         tally: tally::with_rows(sums, payoff, observed, &rows[..], count, &lowest[..]),
+    }
+}
+
+// Step `at` of path `path` + 1 is not finite, `steps` of the batch being taken by then.
+fn stopped(path: usize, at: usize, quantity: Quantity, steps: u64) -> Run
+    requires { ⌜ path < 65536 ⌝ }
+    ensures { λ r. ⌜ r ≡ stoppedAt path at quantity steps ⌝ }
+{
+    let number = path as u64 + 1;
+    Run::NonFinite {
+        refusal: Refusal::NonFinite {
+            path: number,
+            step: at as u64,
+            quantity: quantity,
+            steps: steps,
+        },
+        steps: steps,
     }
 }
 
@@ -107,16 +128,7 @@ pub fn run_paths(batch: Batch, payoff: Payoff, draws: &[f64], observations: &mut
             steps += 1;
             match scheme::ensure_finite(s) {
                 Finiteness::NonFinite(quantity) => {
-                    let number = path as u64 + 1;
-                    failed = Run::NonFinite {
-                        refusal: Refusal::NonFinite {
-                            path: number,
-                            step: at as u64,
-                            quantity: quantity,
-                            steps: steps,
-                        },
-                        steps: steps,
-                    };
+                    failed = stopped(path, at, quantity, steps);
                     break 'paths;
                 }
                 Finiteness::Finite => {}

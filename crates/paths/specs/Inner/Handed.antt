@@ -6,6 +6,8 @@ use mathlib.Core.Option.{Option, none, some}
 use Prim.Native.Nat.{ℕ, suc, _+_, _*_, _%_, _≤_, _<_}
 use lib.ListN.{length, getD}
 use lib.Ieee.{Float, nan}
+use Rattle.refusal.specs.declared.Quantity.{Quantity}
+use Rattle.refusal.specs.declared.Refusal.the-variants.{NonFinite}
 use Rattle.model.specs.Inner.InUse.{simulationInUse}
 use Rattle.model.specs.Inner.Laid.{Laid}
 use Rattle.model.specs.Inner.Admitted.{Admitted}
@@ -69,6 +71,11 @@ Grouped b payoff path before after (group.Walked low sums) =
 Grouped b payoff path before after group.Unsure = after ≡ before
 
 -- ---- the run
+
+-- it stops after step `at` of path `path` + 1, with so many steps taken
+abbrev pub stoppedAt : ℕ → ℕ → Quantity → ℕ → Run
+stoppedAt path at quantity steps =
+    run.NonFinite (NonFinite (path + 1) at quantity steps) steps
 
 -- what its paths come to where it goes through
 abbrev pub walkedOf : Batch → Payoff → Walked

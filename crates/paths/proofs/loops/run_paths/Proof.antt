@@ -241,8 +241,8 @@ ensure-finite-requires c κs = search needs
 enum-known-quantity : tie.Need-enum-known-quantity Inv-loop μ-loop Inv-paths μ-paths
 enum-known-quantity c = search needs
 
-add-number : tie.Need-add-number Inv-loop μ-loop Inv-paths μ-paths
-add-number c = omega (arith, small-at (turn-of (c .before .before .before .before)))
+stopped-requires : tie.Need-stopped-requires Inv-loop μ-loop Inv-paths μ-paths
+stopped-requires c κs = small-at (turn-of (c .before .before .before .before)) .path-small
 
 enum-told-2 : tie.Need-enum-told-2 Inv-loop μ-loop Inv-paths μ-paths
 enum-told-2 c = search needs
@@ -421,7 +421,7 @@ left-of c = given-at (c .before .before .before .before)
 -- the table is as long as it was lent
 long-left : (c : tie.Left-paths Inv-loop μ-loop Inv-paths μ-paths) → length (c .paths-test .observations) ≡ length (left-of c .args .observations .now)
 long-left c =
-    ⊎-elim (λ w. ap length (w .1) ∙ c .before .paths .inv .long) (λ w. ap length (w .10) ∙ w .2 .inv .0 .long) (c .paths-test .came)
+    ⊎-elim (λ w. ap length (w .1) ∙ c .before .paths .inv .long) (λ w. ap length (w .11) ∙ w .2 .inv .0 .long) (c .paths-test .came)
     ∙ sym (left-of c .pre .rows)
 
 same-length : tie.Need-same-length Inv-loop μ-loop Inv-paths μ-paths
@@ -441,9 +441,9 @@ returns c =
     let state = next-state laid (w .2 .inv .0) (w .3 .taken) (stepped taken) in
     let fails = finite-in-use (handed .args .batch .simulation .kernel .n) (w .5 .result) ∙ sym (w .6 .ensures) ∙ w .8 .given .1 in
     ran
-    (w .11 ∙ sym (run-ends laid before (w .0 .taken) (w .2 .inv .0) (w .3 .taken) state fails))
+    (w .12 ∙ w .10 .ensures ∙ sym (run-ends laid before (w .0 .taken) (w .2 .inv .0) (w .3 .taken) state fails))
     (whole _ _ _ (laid .some) (handed .pre .rows) (long-left (c .before))
-    (λ q j l m. rw (w .10) (entries-end laid before (w .0 .taken) (w .2 .inv .0) (w .3 .taken) state fails q j l m))))
+    (λ q j l m. rw (w .11) (entries-end laid before (w .0 .taken) (w .2 .inv .0) (w .3 .taken) state fails q j l m))))
     (c .before .paths-test .came)
 
 same-length-2 : tie.Need-same-length-2 Inv-loop μ-loop Inv-paths μ-paths
@@ -491,7 +491,7 @@ run-paths-spec =
     add-steps-2
     ensure-finite-requires
     enum-known-quantity
-    add-number
+    stopped-requires
     enum-told-2
     mul-if3
     element-copy-out-if3
