@@ -1,5 +1,7 @@
 // Admission of a model: what is asked of its inputs, in the order of rule 14.7, and the simulation
 // that is prepared of them.
+#![tactic(auto)]
+
 ghost use Rattle.admission.specs.Inner.Admission.{ModelPrepared};
 ghost use Rattle.model.specs.Simulation.{given};
 
@@ -10,20 +12,20 @@ pub mod kernel;
 pub mod params;
 
 // An admission has what its questions came to and, where all passed, what was prepared.
-#[derive(Drop)]
+#[derive(Clone, Copy)]
 pub struct KernelAdmission {
     pub outcome: Outcome,
     pub kernel: Kernel,
 }
 
-#[derive(Drop)]
+#[derive(Clone, Copy)]
 pub struct ParamsAdmission {
     pub outcome: Outcome,
     pub params: Params,
     pub start: State,
 }
 
-#[derive(Drop)]
+#[derive(Clone, Copy)]
 pub struct ModelAdmission {
     pub outcome: Outcome,
     pub simulation: Simulation,

@@ -1,4 +1,6 @@
 // A batch: what is asked of it, its price, and the claim of it.
+#![tactic(auto)]
+
 use estimates::Estimates;
 use refusal::Refusal;
 
@@ -6,7 +8,7 @@ pub mod pricing;
 pub mod questions;
 
 // What a batch reports.
-#[derive(Drop)]
+#[derive(Clone, Copy)]
 pub struct Report {
     pub estimates: Estimates,
     pub paths: u64,
@@ -16,7 +18,7 @@ pub struct Report {
 
 // What pricing a batch answers: its report, or the first question that got a No, with the steps
 // taken by then.
-#[derive(Drop)]
+#[derive(Clone, Copy)]
 pub enum Priced {
     Price(Report),
     Refused { refusal: Refusal, steps: u64 },

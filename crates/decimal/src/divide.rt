@@ -3,21 +3,21 @@ ghost use Rattle.std.specs.Prelude.{◌≡◌, ◌+◌, ◌^◌, ◌<◌, min};
 ghost use Rattle.decimal.specs.Inner.Steps.{wide, IsAligned, IsQuotient};
 ghost use Rattle.decimal.specs.Inner.Steps.{IsDivided, IsDividedOnce};
 
-#[derive(Drop)]
+#[derive(Clone, Copy)]
 pub(crate) struct Aligned {
     pub hi: u64,
     pub lo: u64,
     pub shift: u32,
 }
 
-#[derive(Drop)]
+#[derive(Clone, Copy)]
 struct Divided {
     quotient: u64,
     rest: u64,
 }
 
 // `rest` is 0 where the division was exact, else 1.
-#[derive(Drop)]
+#[derive(Clone, Copy)]
 pub(crate) struct Quotient {
     pub hi: u64,
     pub lo: u64,

@@ -1,4 +1,6 @@
 // Decimals: their comparison with zero, and the double that is nearest to one.
+#![tactic(auto)]
+
 mod divide;
 mod round;
 
@@ -12,7 +14,7 @@ ghost use Rattle.decimal.specs.Inner.Steps.{wide};
 
 // ±(high * 2^64 + low) / 10^scale. Every value of the struct is a Decimal.
 #[repr(C)]
-#[derive(Drop)]
+#[derive(Clone, Copy)]
 pub struct Decimal {
     pub low: u64,
     pub high: u32,
@@ -20,7 +22,7 @@ pub struct Decimal {
     pub negative: bool,
 }
 
-#[derive(Drop)]
+#[derive(Clone, Copy)]
 pub enum Converted {
     Value(f64),
     ScaleTooLarge,

@@ -1,15 +1,17 @@
 // Payoffs, and running means with their standard errors (Welford 1962).
+#![tactic(auto)]
+
 pub mod payoffs;
 pub mod welford;
 
-#[derive(Drop)]
+#[derive(Clone, Copy)]
 pub enum Style {
     Call,
     Put,
 }
 
 // A payoff, with strike and barrier as converted. Only a put has a barrier.
-#[derive(Drop)]
+#[derive(Clone, Copy)]
 pub enum Payoff {
     Future,
     Vanilla { style: Style, strike: f64 },
@@ -17,7 +19,7 @@ pub enum Payoff {
 }
 
 // The running mean and squared deviations of Welford's algorithm.
-#[derive(Drop)]
+#[derive(Clone, Copy)]
 pub struct Moments {
     pub count: f64,
     pub mean: f64,
@@ -25,21 +27,21 @@ pub struct Moments {
 }
 
 // The moments of what the paths so far pay, and of what they pay on: the spot or the index.
-#[derive(Drop)]
+#[derive(Clone, Copy)]
 pub struct Tally {
     pub payoffs: Moments,
     pub underlyings: Moments,
 }
 
 // A mean and its standard error.
-#[derive(Drop)]
+#[derive(Clone, Copy)]
 pub struct MeanAndError {
     pub mean: f64,
     pub error: f64,
 }
 
 // The estimates of a batch: of the payoff, and of the terminal spot or the index.
-#[derive(Drop)]
+#[derive(Clone, Copy)]
 pub struct Estimates {
     pub payoff: MeanAndError,
     pub underlying: MeanAndError,

@@ -1,4 +1,6 @@
 // The exponential of a square matrix of doubles, by scaling and squaring.
+#![tactic(auto)]
+
 ghost use Rattle.std.specs.Prelude.{◌≡◌, ◌*◌, ◌≤◌, length};
 ghost use Rattle.matrix.specs.Inner.Workspace.{matrix_at};
 ghost use Rattle.exponential.specs.Norm.{norm1};
@@ -13,7 +15,7 @@ use matrix::entries;
 
 // What the exponential of the matrix in a workspace gives: the number of squarings, or that the
 // norm, twice the norm or an entry of the exponential is not finite.
-#[derive(Drop)]
+#[derive(Clone, Copy)]
 pub enum Exponentiated {
     Done(u32),
     NotFinite,

@@ -4,7 +4,7 @@ ghost use Rattle.numeric.specs.Double.{plus, finite};
 ghost use Rattle.exponential.specs.Exponential.{squarings, two_to_minus, IsLeast};
 
 // The number of squarings, s, and 2^-s.
-#[derive(Drop)]
+#[derive(Clone, Copy)]
 pub struct Scaling {
     pub squarings: u32,
     pub factor: f64,

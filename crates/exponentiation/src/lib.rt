@@ -1,4 +1,6 @@
 // The matrix call: the exponential of a square matrix of doubles, once every question is passed.
+#![tactic(auto)]
+
 ghost use Rattle.std.specs.Prelude.{◌≡◌};
 ghost use Rattle.refusal.specs.declared.Refusal.TheVariants.{Plain};
 ghost use Rattle.exponentiation.specs.Call.{shape_right, answered, refused};
@@ -10,7 +12,7 @@ use matrix::entries;
 // The answer as it crosses the edge (qrh_exponentiation in include/qrh.h): how often the scaled
 // matrix was squared, or the number of the first question that got a No. None of them has a place.
 #[repr(C)]
-#[derive(Drop)]
+#[derive(Clone, Copy)]
 pub struct Exponentiation {
     pub number: u32,
     pub place: [u64; 4],

@@ -1,4 +1,6 @@
 // Runs the checked figures (rules 19.1 to 19.3), and compares each with what it should be.
+#![tactic(auto)]
+
 use libc::STDOUT_FILENO;
 
 mod barriers;

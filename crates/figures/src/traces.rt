@@ -10,7 +10,7 @@ const ABOVE_ONE: f64 = 1.0000000000000002;
 const BELOW_ONE: f64 = 0.9999999999999999;
 
 // What a trace of one step answers, and its second point.
-#[derive(Drop)]
+#[derive(Clone, Copy)]
 struct Step {
     number: u32,
     place: [u64; 4],

@@ -1,5 +1,7 @@
 // The generator, written row by row to the front of the workspace. Each entry is multiplied by the
 // window as it is stored.
+#![tactic(auto)]
+
 ghost use Rattle.std.specs.Prelude.{◌≡◌, ◌+◌, ◌-◌, ◌*◌, ◌≤◌, ◌<◌, length, take};
 ghost use Rattle.model.specs.Inner.InUse.{kernel_in_use};
 ghost use Rattle.matrix.specs.Matrix.{scaled};

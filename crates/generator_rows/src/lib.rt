@@ -1,5 +1,7 @@
 // The rows of the moment system's generator. Each lies in the first places of an array, as many as
 // the state has.
+#![tactic(auto)]
+
 ghost use Rattle.std.specs.Prelude.{◌≡◌, [], ◌∷◌, ℕ, ◌-◌, ◌≤◌, ◌<◌, length, get_or, take, set};
 ghost use Rattle.std.specs.Float.{nan};
 ghost use Rattle.numeric.specs.Double.{plus, plus_zero};

@@ -1,5 +1,7 @@
 // A group of four paths of a batch, walked side by side: the same walks as those of one path after
 // the other, where each of their steps is finite.
+#![tactic(auto)]
+
 ghost use Rattle.std.specs.Prelude.{◌≡◌, true, false, ℕ, suc, ◌+◌, ◌≤◌, ◌<◌, length, get_or};
 ghost use Rattle.std.specs.Float.{nan};
 ghost use Rattle.walks.specs.Batch.{draw_place, draw_of};
@@ -13,7 +15,7 @@ use walks::{Batch, Observation, Observed};
 
 // What a group came to. Where it is sure, all four are walked to their ends, with these lowest
 // spots. Else a step was not finite or a root was not found, and nothing is known.
-#[derive(Drop)]
+#[derive(Clone, Copy)]
 pub struct Together {
     pub sure: bool,
     pub lowest: [f64; 4],

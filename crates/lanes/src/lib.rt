@@ -1,5 +1,7 @@
 // Four states of the model side by side, which the compiler works two at a time. Factor i of lane l
 // is at 4 * i + l of a table of factors.
+#![tactic(auto)]
+
 ghost use Rattle.std.specs.Prelude.{◌≡◌, true, ℕ, ◌≤◌, ◌<◌, length};
 ghost use Rattle.lanes.specs.Inner.Lanes.{AllAt, Spread, FiniteLane};
 
@@ -11,7 +13,7 @@ pub mod scheme;
 
 // Four states but for their factors: a path's spot, z, variance and lowest spot are in one place of
 // each.
-#[derive(Drop)]
+#[derive(Clone, Copy)]
 pub struct Lanes {
     pub spot: [f64; 4],
     pub z: [f64; 4],
@@ -21,7 +23,7 @@ pub struct Lanes {
 
 // What a step in every lane gives, and whether the roots that it took were seen to be the roots of
 // the variances. Where they were not, nothing is known of it.
-#[derive(Drop)]
+#[derive(Clone, Copy)]
 pub struct Tried {
     pub lanes: Lanes,
     pub sure: bool,

@@ -1,4 +1,6 @@
 // The quadratic rough Heston model: kernel tables, parameters, schedule, state and step.
+#![tactic(auto)]
+
 use decimal::Decimal;
 use refusal::Quantity;
 
@@ -6,7 +8,7 @@ pub mod draws;
 pub mod scheme;
 
 // The tables of n weights and n discounts, in the first n places.
-#[derive(Drop)]
+#[derive(Clone, Copy)]
 pub struct Kernel {
     pub n: usize,
     pub weights: [f64; 10],
@@ -15,7 +17,7 @@ pub struct Kernel {
 
 // The model as given: its parameters and the initial factors.
 #[repr(C)]
-#[derive(Drop)]
+#[derive(Clone, Copy)]
 pub struct Model {
     pub a: Decimal,
     pub b: Decimal,
@@ -28,7 +30,7 @@ pub struct Model {
 }
 
 // The parameters as converted.
-#[derive(Drop)]
+#[derive(Clone, Copy)]
 pub struct Params {
     pub a: f64,
     pub b: f64,
@@ -39,7 +41,7 @@ pub struct Params {
 
 // The state of a path: spot, z, variance, its factors, in the first n places, and the lowest spot
 // so far, the start's included.
-#[derive(Drop)]
+#[derive(Clone, Copy)]
 pub struct State {
     pub spot: f64,
     pub z: f64,
@@ -50,7 +52,7 @@ pub struct State {
 
 // One segment of a schedule as given: `steps` steps of `dt` years.
 #[repr(C)]
-#[derive(Drop)]
+#[derive(Clone, Copy)]
 pub struct Segment {
     pub dt: Decimal,
     pub steps: u32,
@@ -58,14 +60,14 @@ pub struct Segment {
 
 // A schedule as given: its segments, in the first `count` places.
 #[repr(C)]
-#[derive(Drop)]
+#[derive(Clone, Copy)]
 pub struct Schedule {
     pub count: usize,
     pub segments: [Segment; 64],
 }
 
 // A schedule as converted, with the last step of each segment, in the first `count` places.
-#[derive(Drop)]
+#[derive(Clone, Copy)]
 pub struct TimeGrid {
     pub count: usize,
     pub total: usize,
@@ -75,14 +77,14 @@ pub struct TimeGrid {
 }
 
 // Whether a state is finite, or what of it is not.
-#[derive(Drop)]
+#[derive(Clone, Copy)]
 pub enum Finiteness {
     Finite,
     NonFinite(Quantity),
 }
 
 // What does not change along a segment. A divisor is 1 + discount × dt.
-#[derive(Drop)]
+#[derive(Clone, Copy)]
 pub struct Rates {
     pub dt: f64,
     pub sqrt_dt: f64,
@@ -90,7 +92,7 @@ pub struct Rates {
 }
 
 // What every path shares: kernel, parameters, start and time grid.
-#[derive(Drop)]
+#[derive(Clone, Copy)]
 pub struct Simulation {
     pub kernel: Kernel,
     pub params: Params,

@@ -1,5 +1,7 @@
 // What the layers above need of a double beyond its operators: the square root, and Rust's
 // is_finite, abs, max and min.
+#![tactic(auto)]
+
 ghost use Rattle.std.specs.Prelude.{◌≡◌, true};
 ghost use Rattle.std.specs.Float.{binary64};
 ghost use Rattle.numeric.specs.Double.{finite, magnitude, positive_part};

@@ -9,7 +9,7 @@ use std::num::wrapping_sub_u64;
 const TWO_52: u64 = 0x10_0000_0000_0000;
 
 // A number of up to 106 digits: high * 2^52 + low.
-#[derive(Drop)]
+#[derive(Clone, Copy)]
 pub struct Wide {
     pub high: u64,
     pub low: u64,

@@ -12,7 +12,7 @@ use walks::Batch;
 
 // What a group of four paths came to: all walked to their ends, of which so many fell to zero or
 // below, and the tally with them; or nothing known, and then nothing of them is written.
-#[derive(Drop)]
+#[derive(Clone, Copy)]
 pub enum Group {
     Walked { fell: u64, tally: Tally },
     Unsure,

@@ -1,6 +1,8 @@
 // The outer calls, as C and Rust programs link them (include/qrh.h). An answer begins with its
 // number, 0 where the call is answered and else the refusal's, and its place, 0 where there is
 // none.
+#![tactic(auto)]
+
 ghost use Rattle.std.specs.Prelude.{◌≡◌, true, false};
 ghost use Rattle.std.specs.Float.{binary64};
 ghost use Rattle.numeric.specs.Correct.{RootIsNearest};
@@ -27,7 +29,7 @@ use vix_value::{Factors, VixValue};
 pub mod down_and_out;
 
 #[repr(C)]
-#[derive(Drop)]
+#[derive(Clone, Copy)]
 pub struct Conversion {
     pub number: u32,
     pub place: [u64; 4],

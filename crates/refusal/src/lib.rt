@@ -1,11 +1,13 @@
 // Refusals: what a call answers when one of its questions gets a No.
+#![tactic(auto)]
+
 ghost use Rattle.std.specs.Prelude.{◌≡◌};
 ghost use Rattle.refusal.specs.Refusal.{number_of, place_of, quantity_number};
 ghost use Rattle.refusal.specs.Questions.{ask};
 ghost use Rattle.refusal.specs.Inner.Asking.{further, or_later};
 
 // What can stop being finite in a step, in the order in which it is asked.
-#[derive(Drop)]
+#[derive(Clone, Copy)]
 pub enum Quantity {
     Spot,
     Z,
@@ -13,7 +15,7 @@ pub enum Quantity {
 }
 
 // A question's number with its place. Tables, paths, steps, segments and indices count from 1.
-#[derive(Drop)]
+#[derive(Clone, Copy)]
 pub enum Refusal {
     // A number that has no place.
     Plain(u32),
@@ -46,7 +48,7 @@ pub enum Refusal {
 }
 
 // What a list of questions comes to: each got a Yes, or the first No.
-#[derive(Drop)]
+#[derive(Clone, Copy)]
 pub enum Outcome {
     Passed,
     Refused(Refusal),

@@ -11,7 +11,7 @@ const FIRST: usize = 2;
 
 // What came of the cases of one call: how many there are, how many of them differed from the
 // record, and the first that did, counted from 1 over all cases of the file.
-#[derive(Drop)]
+#[derive(Clone, Copy)]
 pub struct Tally {
     pub cases: u64,
     pub different: u64,

@@ -2,6 +2,8 @@
 // doubles by their bits, numbers, places, counts and every entry of the lent tables. The records
 // are those of the Rust; oracle/README.md has the format, and `record write FILE --most 3` made
 // them.
+#![tactic(auto)]
+
 ghost use Rattle.std.specs.Prelude.{◌≡◌, length};
 
 use libc::{STDIN_FILENO, STDOUT_FILENO};

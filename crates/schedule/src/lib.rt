@@ -1,5 +1,7 @@
 // Admission of the schedule: questions 11 and 12, then 13, 14 and 1 segment by segment (rule 14.6),
 // and the schedule that is laid out of the segments given (6.2).
+#![tactic(auto)]
+
 ghost use Rattle.std.specs.Prelude.{◌≡◌};
 ghost use Rattle.refusal.specs.Questions.{first_no};
 ghost use Rattle.schedule.specs.Questions.{questions_of};
@@ -9,7 +11,7 @@ use model::{Schedule, Segment, TimeGrid};
 use refusal::{Outcome, Refusal};
 
 // What the questions came to and, where all passed, the schedule.
-#[derive(Drop)]
+#[derive(Clone, Copy)]
 pub struct ScheduleAdmission {
     pub outcome: Outcome,
     pub grid: TimeGrid,

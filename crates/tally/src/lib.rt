@@ -1,5 +1,7 @@
 // What the paths that have ended come to: the last column of their observations, which they show
 // the payoff, and their lowest spots.
+#![tactic(auto)]
+
 ghost use Rattle.std.specs.Prelude.{◌≡◌, ◌*◌, ◌≤◌, length};
 ghost use Rattle.tally.specs.Inner.Rows.{last_observation, with_rows, fallen_among};
 

@@ -1,4 +1,6 @@
 // The trace call: one path over the whole schedule, with a table of what each of its points holds.
+#![tactic(auto)]
+
 ghost use Rattle.std.specs.Prelude.{◌≡◌, ◌≤◌};
 ghost use Rattle.model.specs.Simulation.{given};
 ghost use Rattle.trace.specs.Trace.{tables};
@@ -11,7 +13,7 @@ use refusal::{Outcome, Quantity, Refusal};
 pub mod walk;
 
 // What the walk of a trace comes to: its steps are all finite, or the first that is not.
-#[derive(Drop)]
+#[derive(Clone, Copy)]
 pub enum Traced {
     Done { steps: u64 },
     NonFinite { step: u64, quantity: Quantity },
@@ -19,7 +21,7 @@ pub enum Traced {
 
 // The answer of a trace: 0 or the number of a refusal, its place, and the steps taken.
 #[repr(C)]
-#[derive(Drop)]
+#[derive(Clone, Copy)]
 pub struct Tracing {
     pub number: u32,
     pub place: [u64; 4],
@@ -27,7 +29,7 @@ pub struct Tracing {
 }
 
 // How long the lent tables are.
-#[derive(Drop)]
+#[derive(Clone, Copy)]
 pub struct Lengths {
     pub spots: usize,
     pub variances: usize,

@@ -1,4 +1,6 @@
 // The vanilla call: a batch of calls, puts or down-and-out puts on the spot, ordinary or mirrored.
+#![tactic(auto)]
+
 ghost use Rattle.std.specs.Prelude.{◌≡◌};
 ghost use Rattle.refusal.specs.Questions.{first_no};
 ghost use Rattle.model.specs.Simulation.{given};
@@ -15,14 +17,14 @@ use walks::{Batch, Observation};
 
 // What is paid on the spot: a call or a put at its strike, or a put that vanishes once the spot is
 // at its barrier or below.
-#[derive(Drop)]
+#[derive(Clone, Copy)]
 pub enum Terms {
     Vanilla { put: bool, strike: Decimal },
     DownAndOut { strike: Decimal, barrier: Decimal },
 }
 
 // What is priced: these terms, over so many paths.
-#[derive(Drop)]
+#[derive(Clone, Copy)]
 pub struct Order {
     pub terms: Terms,
     pub mirrored: bool,
@@ -32,7 +34,7 @@ pub struct Order {
 // The values of a vanilla batch, in the order in which they are reported. At a refusal they are
 // zeros, but for the steps taken.
 #[repr(C)]
-#[derive(Drop)]
+#[derive(Clone, Copy)]
 pub struct Estimate {
     pub number: u32,
     pub place: [u64; 4],

@@ -1,4 +1,6 @@
 // The VIX squared of the model as a quadratic form in the factors: its coefficients, and its value.
+#![tactic(auto)]
+
 ghost use Rattle.std.specs.Prelude.{◌≡◌, ◌-◌, ◌≤◌, ◌<◌, take};
 ghost use Rattle.refusal.specs.Questions.{first_no};
 ghost use Rattle.model.specs.Inner.InUse.{kernel_in_use};
@@ -18,7 +20,7 @@ use refusal::{Outcome, Refusal};
 
 // 10000 / window, and the coefficients of the value: of each factor, of each pair i ≤ j row by row,
 // and the constant. n factors are in use, and n × (n + 1) / 2 pairs.
-#[derive(Drop)]
+#[derive(Clone, Copy)]
 pub struct Vix {
     pub n: usize,
     pub scale: f64,
@@ -28,7 +30,7 @@ pub struct Vix {
 }
 
 // What the questions of the form came to and, where all passed, the form.
-#[derive(Drop)]
+#[derive(Clone, Copy)]
 pub struct FormAdmission {
     pub outcome: Outcome,
     pub form: Vix,
@@ -36,7 +38,7 @@ pub struct FormAdmission {
 
 // What an evaluation gives: the VIX squared and the index, or that VIX squared is not finite, or
 // not above zero.
-#[derive(Drop)]
+#[derive(Clone, Copy)]
 pub enum Evaluated {
     Done { squared: f64, index: f64 },
     NotFinite,

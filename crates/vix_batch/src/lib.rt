@@ -1,4 +1,6 @@
 // The VIX batch: a future, or calls or puts, on the index.
+#![tactic(auto)]
+
 ghost use Rattle.std.specs.Prelude.{◌≡◌};
 ghost use Rattle.refusal.specs.Questions.{first_no};
 ghost use Rattle.model.specs.Simulation.{given};
@@ -15,7 +17,7 @@ use walks::{Batch, Observation};
 
 // A future on the index, or a vanilla on it with its style and its strike.
 #[repr(C)]
-#[derive(Drop)]
+#[derive(Clone, Copy)]
 pub struct VixPayoff {
     pub future: bool,
     pub put: bool,
@@ -23,7 +25,7 @@ pub struct VixPayoff {
 }
 
 // What is priced: a payoff on the index over a window, over so many paths.
-#[derive(Drop)]
+#[derive(Clone, Copy)]
 pub struct Order {
     pub window: Decimal,
     pub payoff: VixPayoff,
@@ -33,7 +35,7 @@ pub struct Order {
 // The values of a VIX batch, in the order in which they are reported. At a refusal they are zeros,
 // but for the steps taken.
 #[repr(C)]
-#[derive(Drop)]
+#[derive(Clone, Copy)]
 pub struct VixEstimate {
     pub number: u32,
     pub place: [u64; 4],

@@ -1,5 +1,7 @@
 // The VIX evaluation call: VIX squared and the index at the factors given. The crate qrh
 // exports it to C.
+#![tactic(auto)]
+
 ghost use Rattle.std.specs.Prelude.{◌≡◌, ◌≤◌};
 ghost use Rattle.refusal.specs.Questions.{first_no};
 ghost use Rattle.vix.specs.Inner.Form.{vix_in_use};
@@ -15,7 +17,7 @@ use vix::{Evaluated, Vix};
 
 // The factors at which the VIX is wanted, in the first `count` places.
 #[repr(C)]
-#[derive(Drop)]
+#[derive(Clone, Copy)]
 pub struct Factors {
     pub count: usize,
     pub factors: [Decimal; 10],
@@ -23,7 +25,7 @@ pub struct Factors {
 
 // VIX squared and the index, which are zeros at a refusal.
 #[repr(C)]
-#[derive(Drop)]
+#[derive(Clone, Copy)]
 pub struct VixValue {
     pub number: u32,
     pub place: [u64; 4],

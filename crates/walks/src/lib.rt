@@ -1,4 +1,6 @@
 // The walks of a batch: which draw a step of a path takes, and what is observed of a state.
+#![tactic(auto)]
+
 ghost use Rattle.std.specs.Prelude.{◌≡◌, suc, ◌+◌, ◌<◌, ◌≤◌, length, get_or};
 ghost use Rattle.std.specs.Float.{nan};
 ghost use Rattle.model.specs.Inner.InUse.{state_in_use};
@@ -10,21 +12,21 @@ use model::{Simulation, State, draws};
 use vix::Vix;
 
 // What an observation at a segment's end reads off a state.
-#[derive(Drop)]
+#[derive(Clone, Copy)]
 pub enum Observed {
     Spot,
     VixSquared,
 }
 
 // What is observed, with the form that the VIX is read off; of a spot no form is looked at.
-#[derive(Drop)]
+#[derive(Clone, Copy)]
 pub struct Observation {
     pub observed: Observed,
     pub form: Vix,
 }
 
 // The paths of a batch. In a mirrored one path 2i has the draws of path 2i - 1, negated.
-#[derive(Drop)]
+#[derive(Clone, Copy)]
 pub struct Batch {
     pub simulation: Simulation,
     pub observation: Observation,

@@ -1,0 +1,37 @@
+-- `decimal::double_of` meets its contract: the cases of `value`. Assumes nothing.
+use mathlib.Core.Path.{◌≡◌, sym, ◌∙◌}
+use mathlib.Core.Logic.{⊎_elim}
+use mathlib.Core.Bool.{false}
+use Prim.Native.Nat.{◌≤◌}
+use borrow.Author.Tests.{ltb-true, ltb-false}
+use Rattle.decimal.specs.Decimal.{is_zero}
+use Rattle.numeric.proofs.Doubles.{zero_is}
+use Rattle.decimal.proofs.Value.{zero_value, nearest_value, refused_value_lem}
+use Rattle.decimal.proofs.Zero.{nonzero}
+use Rattle.decimal.proofs.double_of.Goals.{Else-d-gt-LARGEST_SCALE}
+use Rattle.decimal.proofs.double_of.Goals as goal
+
+-- past both tests
+module _ (c : Else-d-gt-LARGEST_SCALE) where
+  not-zero : is_zero c.args.d ≡ false
+  not-zero = sym c.is_zero.ensures ∙ c.if-is_zero.false
+
+  short : c.args.d.scale ≤ 28
+  short = ltb-false 28 c.args.d.scale c.if-d-gt-LARGEST_SCALE.false
+
+pub returns-then-is_zero : goal.returns-then-is_zero
+returns-then-is_zero c =
+    let d = c.args.d in
+    let said = sym c.is_zero.ensures in
+    zero_is
+    ∙ sym
+    (⊎_elim (λ w. zero_value d (said ∙ w.taken)) (λ w. refused_value_lem d (said ∙ w.0.left) (ltb-true 28 d.scale w.2.taken)) c.if-is_zero.branch)
+
+pub nonzero_to_f64-requires : goal.nonzero_to_f64-requires
+nonzero_to_f64-requires c =
+    (nonzero c.args.d (not-zero c.before), short c.before)
+
+pub returns : goal.returns
+returns c =
+    c.nonzero_to_f64.ensures
+    ∙ sym (nearest_value c.args.d (not-zero c.before.before) (short c.before.before))
