@@ -1,4 +1,5 @@
 -- `decimal::decimal_to_f64` meets its contract: the two cases of `convert`. Assumes nothing.
+
 use mathlib.Core.Path.{sym, ap, ◌∙◌, subst}
 use native.Mathlib.Omega.{arith}
 use Rattle.decimal.specs.declared.Converted.TheVariants.{Value}
@@ -10,10 +11,11 @@ pub returns-then-scale_fits : goal.returns-then-scale_fits
 returns-then-scale_fits c =
     let d = c.args.d in
     let fits = sym c.scale_fits.ensures ∙ c.if-scale_fits.true in
-    let is = c.double_of.ensures in (
-      ap Value is ∙ sym (converted_value d fits),
-      subst (ConvertsToNearest d) (sym is) (converts_to_nearest d (omega arith)),
-    )
+    let is = c.double_of.ensures in
+    record {
+      answer = ap Value is ∙ sym (converted_value d fits);
+      nearest = subst (ConvertsToNearest d) (sym is) (converts_to_nearest d (omega arith));
+    }
 
 pub returns-else-scale_fits : goal.returns-else-scale_fits
 returns-else-scale_fits c =

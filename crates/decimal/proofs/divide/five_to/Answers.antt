@@ -1,19 +1,12 @@
 -- `decimal::divide::five_to` meets its contract: each arm has the power that its number says.
 -- Assumes nothing.
 use mathlib.Core.Path.{◌≡◌, sym, ap}
-use Prim.Native.Nat.{ℕ, ◌+◌, ◌^◌, ◌≤◌, ◌<◌, zero-le}
+use Prim.Native.Nat.{ℕ, ◌^◌}
 use native.Mathlib.Omega.{arith}
 use Rattle.decimal.proofs.divide.five_to.Goals as goal
 
 power : (k n : ℕ) → n ≡ k → 5 ^ k ≡ 5 ^ n
 power k n e = ap (λ (x : ℕ). 5 ^ x) (sym e)
-
-is-twelve : (n : ℕ) → 12 ≤ n → n < 13 → n ≡ 12
-is-twelve n h k = omega arith
-
--- a number from a on that is none of the next six
-six-on : (a n : ℕ) → a ≤ n → (n ≡ a → ⊥) → (n ≡ a + 1 → ⊥) → (n ≡ a + 2 → ⊥) → (n ≡ a + 3 → ⊥) → (n ≡ a + 4 → ⊥) → (n ≡ a + 5 → ⊥) → a + 6 ≤ n
-six-on a n h p q r s t u = omega arith
 
 pub returns-in-0 : goal.returns-in-0
 returns-in-0 c =
@@ -65,9 +58,4 @@ returns-in-11 c =
 
 pub returns-in_default : goal.returns-in_default
 returns-in_default c =
-    let n = c.args.power in
-    let late = c.in-0.rest in
-    let early = late.0.0.0.0.0.0 in
-    let h = six-on 0 n zero-le early.0.0.0.0.0.1 early.0.0.0.0.1 early.0.0.0.1 early.0.0.1 early.0.1 early.1 in
-    let k = six-on 6 n h late.0.0.0.0.0.1 late.0.0.0.0.1 late.0.0.0.1 late.0.0.1 late.0.1 late.1 in
-    power 12 n (is-twelve n k c.requires)
+    let is : c.args.power ≡ 12 = omega arith in power 12 c.args.power is
