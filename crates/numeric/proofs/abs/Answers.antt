@@ -1,7 +1,7 @@
 -- `numeric::abs` meets its contract. Assumes nothing.
 use Rattle.std.proofs.lemmas.Float.{T_from_true}
 use Rattle.std.proofs.Common.{◌%◌, ◌^◌, T, sym, ap, ◌∙◌, subst}
-use lib.Ieee.{binary64, fits, to_bits}
+use lib.Ieee.{binary64, to_bits}
 use lib.Ieee.Compare.{differs_from_itself}
 use Rattle.numeric.specs.Double.{magnitude}
 use Rattle.numeric.proofs.Doubles.{unsigned_is}

@@ -1,6 +1,6 @@
 -- `numeric::sqrt` meets its contract. Assumes nothing.
 use Rattle.std.proofs.lemmas.Float.{T_from_true}
-use Rattle.std.proofs.Common.{◌≡◌, ◌*◌, ◌%◌, ◌^◌, ◌≤◌, false, T, sym, refl, ap, ◌∙◌, subst, arith, lit<}
+use Rattle.std.proofs.Common.{◌≡◌, ◌*◌, ◌^◌, false, T, sym, refl, ap, ◌∙◌, subst, arith, lit<}
 use lib.Ieee.{Float, nan, inf, binary64, fits, of_bits, to_bits}
 use lib.Ieee.Bits.{of_bits-to_bits, to_bits-lt}
 use lib.Ieee.Compare.{differs_from_itself}
