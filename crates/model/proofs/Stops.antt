@@ -1,6 +1,6 @@
 -- Where a walk stops: it goes on over a finite state and stops at one that is not. Assumes nothing.
 use mathlib.Core.Path.{◌≡◌, refl, sym, ap, ◌∙◌}
-use mathlib.Core.Option.{none, some}
+use mathlib.Core.Option.{Option, none, some}
 use Prim.Native.Nat.{ℕ, suc, ◌<◌, ◌≤◌}
 use native.Mathlib.Omega.{arith}
 use Rattle.refusal.specs.declared.Quantity.{Quantity}
@@ -32,32 +32,36 @@ pub record StopsAt (w : Walk) (n : ℕ) (x : Stop) : Type 0 where
   pub earlier : (j : ℕ) → 1 ≤ j → j < x.step → finiteness (state_after w j) ≡ Finite
 
 module _ (w : Walk) where
+  -- the stop of a step, if it is one
+  abbrev stop_of : ℕ → Option Stop
+  stop_of k = stop_here k (finiteness (state_after w k))
+
   pub stop_goes : (k : ℕ) → stop_within w k ≡ none → finiteness (state_after w (suc k)) ≡ Finite → stop_within w (suc k) ≡ none
   unfolding stop_within
-  stop_goes k h e = first_more _ k h ∙ rw (e, stop_here)
+  stop_goes k h e = first_more stop_of k h ∙ rw (e, stop_here)
 
   pub stop_ends : (k : ℕ) (q : Quantity) → stop_within w k ≡ none → finiteness (state_after w (suc k)) ≡ NonFinite q → (n : ℕ) → k < n → stop_within w n ≡ some (stop_at (suc k) q)
   unfolding stop_within
-  stop_ends k q h e n l = first_stays _ (suc k) n (stop_at (suc k) q) l (first_more _ k h ∙ rw (e, stop_here))
+  stop_ends k q h e n l = first_stays stop_of (suc k) n (stop_at (suc k) q) l (first_more stop_of k h ∙ rw (e, stop_here))
 
   pub stop_none : (m n : ℕ) → m ≤ n → stop_within w n ≡ none → stop_within w m ≡ none
   unfolding stop_within
-  stop_none m n h e = first_none _ m n h e
+  stop_none m n h e = first_none stop_of m n h e
 
   -- a walk stops nowhere exactly where each step is finite
   pub stop_finite : (n : ℕ) → stop_within w n ≡ none → (k : ℕ) → 1 ≤ k → k ≤ n → finiteness (state_after w k) ≡ Finite
   unfolding stop_within
-  stop_finite n e k h l = here_finite k _ (none_at _ n k e h l)
+  stop_finite n e k h l = here_finite k _ (none_at stop_of n k e h l)
 
   pub finite_stop : (n : ℕ) → ((k : ℕ) → 1 ≤ k → k ≤ n → finiteness (state_after w k) ≡ Finite) → stop_within w n ≡ none
   unfolding stop_within
-  finite_stop n h = none_all _ n (λ k l m. rw (h k l m, stop_here))
+  finite_stop n h = none_all stop_of n (λ k l m. rw (h k l m, stop_here))
 
   -- and where it stops is its first step that is not
   pub stop_first : (n : ℕ) (x : Stop) → stop_within w n ≡ some x → StopsAt w n x
   unfolding stop_within
   stop_first n x e =
-      let r = first_at _ n x e in
+      let r = first_at stop_of n x e in
       let here = here_stops r.0 _ x r.1.here in
       record {
         from = rw here.0 r.1.from;
