@@ -1,7 +1,6 @@
 -- Rules 11.1 and 11.2: the order of the moment system's state, and the places in it. Indices count
 -- from 0. Definitions only.
-use Rattle.std.specs.Prelude.{◌≡◌, List, [], ◌++◌, ℕ, zero, suc, ◌+◌, ◌-◌, ◌*◌, ◌/◌, ◌≤◌, ◌<◌, min, max, length, get_or, Float}
-use Rattle.std.specs.Float.{nan}
+use Rattle.std.specs.Prelude.{List, [], ◌++◌, ℕ, zero, suc, ◌+◌, ◌-◌, min, max, Float}
 
 -- Rule 11.1: f 0, f 1, .. f (n - 1), one after the other
 unfoldable pub joined : (ℕ → List Float) → ℕ → List Float
