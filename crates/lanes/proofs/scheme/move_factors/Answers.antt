@@ -15,7 +15,6 @@ loop-i-init c =
 pub move_row-requires : goal.move_row-requires
 move_row-requires c =
     let at-loop = c.before.before.before in
-    let start = at-loop.before.before.before.before in
     let long : 4 * at-loop.loop-i.i + 4 ≤ length at-loop.loop-i.factors = omega (arith, at-loop.loop-i.invariant.1.long) in
     (omega arith, long)
 
@@ -23,7 +22,6 @@ pub add_products-sum-requires : goal.add_products-sum-requires
 add_products-sum-requires c =
     let at-loop = c.before.before.before.before.before.before.before.before in
     let moved = c.before.before.before.before.move_row.ensures in
-    let start = at-loop.before.before.before.before in
     (omega arith, omega (arith, moved.long, at-loop.loop-i.invariant.1.long))
 
 pub loop-i-preserved : goal.loop-i-preserved
