@@ -1,7 +1,6 @@
 -- What 23 and 24 come to, by the tests that the code makes of VIX squared. Assumes nothing.
 use mathlib.Core.Path.{◌≡◌, sym, ◌∙◌}
-use mathlib.Core.Bool.{Bool, true, false, not}
-use borrow.Author.Tests.{not-true, not-false}
+use mathlib.Core.Bool.{Bool, true, false}
 use lib.Ieee.{Float, binary64, le}
 use Rattle.numeric.specs.Double.{plus_zero, finite}
 use Rattle.numeric.specs.Root.{root}
@@ -10,13 +9,13 @@ use Rattle.vix.specs.declared.Evaluated.TheVariants.{Done, NotFinite, NotPositiv
 use Rattle.vix.specs.Evaluation.{evaluated}
 
 module _ {x y : Float} {answer : Bool} (value : x ≡ y) (asked : answer ≡ finite x) where
-  pub not_finite : not answer ≡ true → NotFinite ≡ evaluated y
+  pub not_finite : answer ≡ false → NotFinite ≡ evaluated y
   unfolding evaluated
-  not_finite h = let no : finite x ≡ false = sym asked ∙ not-true _ h in rw (← value, no)
+  not_finite h = let no : finite x ≡ false = sym asked ∙ h in rw (← value, no)
 
-  module _ (h : not answer ≡ false) where
+  module _ (h : answer ≡ true) where
     yes_finite : finite x ≡ true
-    yes_finite = sym asked ∙ not-false _ h
+    yes_finite = sym asked ∙ h
 
     pub not_positive : le x plus_zero ≡ true → NotPositive ≡ evaluated y
     unfolding evaluated
