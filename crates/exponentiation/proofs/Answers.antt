@@ -8,7 +8,7 @@ use native.Mathlib.Omega.{arith}
 use lib.Dec.{leb, eqb}
 use lib.ListN.{length}
 use lib.Ieee.{Float}
-use borrow.Author.Tests.{leb-true, eqb-true, lt-leb, le-leb, eq-eqb, ne_eqb}
+use borrow.Author.Tests.{leb-true, eqb-true, eq-eqb, ne_eqb}
 use Rattle.refusal.specs.declared.Refusal.{Refusal}
 use Rattle.refusal.specs.declared.Refusal.TheVariants.{Plain}
 use Rattle.refusal.specs.declared.Outcome.{Outcome}
@@ -26,24 +26,6 @@ use Rattle.exponentiation.specs.Call.{exponential_questions, answered, refused}
 use Rattle.exponentiation.specs.Call.{exponential_call, exponential_table, ExponentialAnswered}
 
 -- ---- 26
-
-module _ (n input output : ℕ) where
-  pub too_small : n < 1 → false ≡ shape_right n input output
-  unfolding shape_right
-  too_small h = sym (rw (lt-leb 1 n h))
-
-  pub too_large : 67 < n → false ≡ shape_right n input output
-  unfolding shape_right
-  too_large h = sym (rw (lt-leb n 67 h, le-leb 1 n (omega arith)))
-
-  module _ (least : 1 ≤ n) (most : n ≤ 67) where
-    pub input-not : (input ≡ n * n → ⊥) → false ≡ shape_right n input output
-    unfolding shape_right
-    input-not h = sym (rw (le-leb 1 n least, le-leb n 67 most, ne_eqb input (n * n) h))
-
-    pub output-told : input ≡ n * n → eqb output (n * n) ≡ shape_right n input output
-    unfolding shape_right
-    output-told h = sym (rw (le-leb 1 n least, le-leb n 67 most, eq-eqb input (n * n) h))
 
 pub record Right (n input output : ℕ) : Type 0 where
   pub least : 1 ≤ n

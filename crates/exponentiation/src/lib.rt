@@ -42,6 +42,7 @@ fn refused(number: u32) -> Exponentiation
 
 // Whether the dimension is 1 to 67 and both matrices have dimension² entries. A dimension may be
 // any number, so that it is tested before it is squared.
+#[tactic(auto, unfolding(crate::specs::Call::shape_right))]
 fn shape_is_right(dim: usize, input: usize, output: usize) -> bool
     ensures { result ≡ shape_right dim input output }
 {
