@@ -1,5 +1,5 @@
 -- Question 17 in its three parts, and the exponential put together. Assumes nothing.
-use mathlib.Core.Path.{◌≡◌, refl, sym, ap, ◌∙◌, subst}
+use mathlib.Core.Path.{◌≡◌, refl, sym, ap, ◌∙◌}
 use mathlib.Core.Bool.{Bool, true, false, cond, ◌&&◌}
 use mathlib.Core.List.{List}
 use Prim.Native.Nat.{ℕ, ◌*◌}
@@ -8,10 +8,9 @@ use Rattle.numeric.specs.Double.{plus, finite}
 use Rattle.matrix.specs.Matrix.{scaled, all_finite}
 use Rattle.matrix.specs.Inner.Workspace.{matrix_at}
 use Rattle.exponential.specs.Norm.{norm1}
-use Rattle.exponential.specs.Exponential.{two_to_minus, squarings, IsLeast, horner, squared}
+use Rattle.exponential.specs.Exponential.{two_to_minus, squarings, horner, squared}
 use Rattle.exponential.specs.Exponential.{exponential_by, exponential, exponential_finite}
-use Rattle.exponential.specs.Inner.Workspace.{exponentiated, Holds, Fewest, Started}
-use Rattle.exponential.specs.declared.Exponentiated.{Exponentiated}
+use Rattle.exponential.specs.Inner.Workspace.{exponentiated, Started}
 use Rattle.exponential.specs.declared.Exponentiated.TheVariants.{Done, NotFinite}
 
 module _ (n : ℕ) (a : List Float) where
@@ -66,13 +65,3 @@ pub exponential_is :
     → exponential_by n a s ≡ exponential n a
 unfolding exponential
 exponential_is n s a norm q e = ap (exponential_by n a) (e ∙ ap squarings q)
-
--- where the exponential is done, its place holds it
-pub held :
-    (s : ℕ) (o : Exponentiated) (place result : List Float) → o ≡ Done s → Holds o place result
-    → place ≡ result
-held s o place result e h = subst (λ (x : Exponentiated). Holds x place result) e h
-
--- and its number of squarings is the least
-pub fewest : (s : ℕ) (o : Exponentiated) (norm : Float) → o ≡ Done s → Fewest o norm → IsLeast norm s
-fewest s o norm e h = subst (λ (x : Exponentiated). Fewest x norm) e h

@@ -3,19 +3,17 @@ use mathlib.Core.Path.{◌≡◌, refl, sym, ap, ◌∙◌, subst}
 use mathlib.Core.Bool.{true, false}
 use mathlib.Core.List.{List}
 use Prim.Native.Nat.{ℕ, zero, suc, ◌+◌, ◌-◌, ◌*◌, ◌≤◌, ◌<◌}
-use native.Mathlib.Nat.{zero-mul, zero-add, le_antisymm, not-suc-le-zero}
+use native.Mathlib.Nat.{zero-mul, zero-add, not-suc-le-zero}
 use native.Mathlib.Numerals.{add-one}
-use native.Mathlib.Decide.{dec_le}
 use native.Mathlib.Omega.{arith}
 use lib.ListN.{length, get_or, take, drop, replicate, length-replicate, get_or-replicate}
 use lib.Ieee.{Float, nan, eq, ne}
 use borrow.Author.Tests.{not-true, not-false}
 use Rattle.numeric.specs.Double.{plus, times, plus_zero}
 use Rattle.matrix.specs.Matrix.{entry, with_term, term_sum, product}
-use borrow.Rule.Slice.PartMut.{put_mid, mid_of, same_len_mid}
 use Rattle.matrix.specs.Inner.Workspace.{Added, ColumnSums, Filled}
 use Rattle.matrix.proofs.Cells.{row_end, length_matrix, entry_matrix}
-use Rattle.matrix.proofs.Lists.{part_length, part_at, put_before, put_in}
+use Rattle.matrix.proofs.Lists.{part_length, part_at}
 
 -- ---- an entry
 
@@ -118,44 +116,9 @@ module _ (n : ℕ) (left right : List Float) (from width : ℕ) where
           let term = term_add n left right 0 (from + l) k nonzero in
           s.sums l inside ∙ rw (p.sum l b, part_is l b, ← first_row n k left) term
 
-  pub sums_all : (sums : List Float) (k : ℕ) → Sums k sums → k ≤ n → n ≤ k → Sums n sums
-  sums_all sums k p l h = subst (λ (m : ℕ). Sums m sums) (le_antisymm l h) p
-
--- ---- a row, block after block
+-- ---- a row of which no block is filled yet
 
 module _ (n : ℕ) (left right row : List Float) where
   pub filled_none : length row ≡ n → Filled n left right row 0
   filled_none l =
       record { len = l; within = omega arith; column = λ c h. absurd (not-suc-le-zero h) }
-
-  -- a block begins no later than the columns that are filled end: it may write some of them again
-  pub filled_more : (sums new : List Float) (j from width : ℕ) → from ≤ j → from + width ≤ n
-      → Filled n left right row j → ColumnSums n left right from width sums n → new ≡ sums
-      → Filled n left right (put_mid from (from + width - from) row new) (from + width)
-  filled_more sums new j from width begins ends p s q =
-      subst (λ (l : List Float). Filled n left right (put_mid from size row l) (from + width))
-      (sym q)
-      (record {
-        len = same_len_mid from size row sums (s.len ∙ sym part_long) ∙ p.len;
-        within = ends;
-        column = λ c h. block_or_before c (dec_le from c) h;
-      })
-    where
-      size : ℕ
-      size = from + width - from
-
-      part_long : length (mid_of from size row) ≡ width
-      part_long = part_length row from width (omega (arith, p.len))
-
-      inside : from ≤ length row
-      inside = omega (arith, p.len)
-
-      block_or_before : (c : ℕ) → Dec (from ≤ c) → c < from + width
-          → get_or (put_mid from size row sums) c nan ≡ term_sum n left right 0 c n
-      block_or_before c (yes a) h =
-          let e : from + (c - from) ≡ c = omega arith in
-          subst (λ (m : ℕ). get_or (put_mid from size row sums) m nan ≡ term_sum n left right 0 m n) e
-          (put_in row sums from size inside (c - from) (omega (arith, s.len))
-          ∙ s.sum (c - from) (omega arith))
-      block_or_before c (no a) h =
-          put_before row sums from size inside c (omega arith) ∙ p.column c (omega arith)
