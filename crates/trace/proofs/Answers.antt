@@ -1,10 +1,10 @@
 -- The trace call: what each refusal and the walk come to. Assumes nothing.
 use mathlib.Core.Path.{◌≡◌, refl, sym, ap, ◌∙◌}
-use mathlib.Core.Bool.{Bool, true, false, and-eq-true_iff}
+use mathlib.Core.Bool.{Bool, true, false}
 use mathlib.Core.List.{List, [], ◌∷◌}
 use Prim.Native.Nat.{ℕ, ◌+◌, ◌*◌, ◌≤◌}
 use native.Mathlib.Nat.{le_trans, mul-le-mul_left, mul-le-mul_right}
-use borrow.Author.Tests.{eqb-true, eq-eqb, ne_eqb}
+use borrow.Author.Tests.{eq-eqb, ne_eqb}
 use lib.Dec.{eqb}
 use lib.ListN.{length}
 use Rattle.refusal.specs.declared.Refusal.{Refusal}
@@ -24,25 +24,11 @@ use Rattle.trace.specs.declared.Tracing.{Tracing}
 use Rattle.trace.specs.Trace.{Tables, trace_walk, trace_answer, tables_after}
 use Rattle.trace.specs.Call.{TraceInputs, TraceAnswered, walk_of, lengths, lengths_right}
 use Rattle.trace.specs.Call.{trace_questions, trace_call, trace_tables, answered, refused}
-use Rattle.trace.specs.Inner.Points.{Sized}
 use Rattle.trace.proofs.Turns.{walk_in}
 
 -- ---- question 21 of four lengths
 pub factors_fit : (points n : ℕ) → points ≤ 4097 → n ≤ 10 → points * n ≤ 40970
 factors_fit points n p q = le_trans (mul-le-mul_left points q) (mul-le-mul_right 10 p)
-
-pub sized :
-    (total n : ℕ) (t : Tables) → lengths_right (total + 1) n (lengths t) ≡ true → Sized total n t
-sized total n t e =
-    let first = (and-eq-true_iff _ _).0 e in
-    let second = (and-eq-true_iff _ _).0 first.1 in
-    let third = (and-eq-true_iff _ _).0 second.1 in
-    record {
-      spots = eqb-true _ _ first.0;
-      variances = eqb-true _ _ second.0;
-      z = eqb-true _ _ third.0;
-      factors = eqb-true _ _ third.1;
-    }
 
 -- ---- the call
 module _ (i : TraceInputs) (lent : Tables) where
