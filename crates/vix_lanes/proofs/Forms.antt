@@ -38,7 +38,10 @@ module _ (v : Vix) (n i l : ℕ) (factors : List Float) where
       ≡ row_value v (lane_factors n factors l) i before (m + 1)
   unfolding row_value
   pair_more before value m s h e =
-      rw (add-one, e, s, lane_factor n i l factors (omega arith), lane_factor n (i + m) l factors h)
+      let same : times (times (get_or v.pairs (pairs_before n i + m) nan) (get_or factors (4 * i + l) nan)) (get_or factors (4 * (i + m) + l) nan) ≡ times (times (get_or v.pairs (pairs_before v.n i + m) nan) (get_or (lane_factors n factors l) i nan)) (get_or (lane_factors n factors l) (i + m) nan) = rw (s, lane_factor n i l factors (omega arith), lane_factor n (i + m) l factors h) in
+      rw add-one
+      (ap (λ (x : Float). plus x (times (times (get_or v.pairs (pairs_before n i + m) nan) (get_or factors (4 * i + l) nan)) (get_or factors (4 * (i + m) + l) nan))) e
+      ∙ ap (plus (row_value v (lane_factors n factors l) i before m)) same)
 
 -- the form's value in a lane, by the coefficients in use
 pub squared_is : (v : Vix) (l : ℕ) (factors : List Float) (value : Float) → value ≡ value_through v (lane_factors v.n factors l) v.n
