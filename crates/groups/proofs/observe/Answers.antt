@@ -3,7 +3,6 @@ use mathlib.Core.Path.{◌≡◌, sym, ap, ◌∙◌}
 use mathlib.Core.List.{List}
 use Prim.Native.Nat.{ℕ, ◌≤◌}
 use native.Mathlib.Omega.{arith}
-use borrow.Author.Rules.{rules}
 use lib.Ieee.{Float}
 use Rattle.vix.specs.declared.Vix.{Vix}
 use Rattle.vix.specs.Form.{raw_squared}
@@ -11,8 +10,7 @@ use Rattle.vix.specs.Inner.Form.{vix_in_use}
 use Rattle.vix.proofs.InUse.{squared_in_use}
 use Rattle.lanes.specs.Inner.Lanes.{lane_factors}
 use Rattle.vix_lanes.proofs.Forms.{lane_take}
-use Rattle.groups.proofs.observe.Statement.{statement}
-use Rattle.groups.proofs.observe.Tie as tie
+use Rattle.groups.proofs.observe.Goals as goal
 
 -- the form reads as many factors as it has
 fewer : (v : Vix) (factors : List Float) (n l : ℕ) → v.n ≤ n → raw_squared (vix_in_use v) (lane_factors v.n factors l) ≡ raw_squared (vix_in_use v) (lane_factors n factors l)
@@ -22,24 +20,13 @@ fewer v factors n l h =
     ∙ sym (squared_in_use v n h (lane_factors n factors l))
     ∙ ap (raw_squared (vix_in_use v)) (lane_take n n l factors (omega arith))
 
-enum_told : tie.Need-enum-told
-enum_told c = search rules
+pub returns-in-Spot : goal.returns-in-Spot
+returns-in-Spot c =
+    λ n l few h. sym (rw c.in-Spot.is)
 
-enum-told-2 : tie.Need-enum-told-2
-enum-told-2 c = search rules
-
-squared-requires : tie.Need-squared-requires
-squared-requires c κs = search rules
-
-returns : tie.Need-returns
-returns c = λ n l few h. sym (rw c.before.enum_told.given.1)
-
-returns-2 : tie.Need-returns-2
-returns-2 c =
-    let args = c.before.before.before.before.before.args in
+pub returns-in-VixSquared : goal.returns-in-VixSquared
+returns-in-VixSquared c =
+    let args = c.args in
     λ n l few h.
     c.squared.ensures l h ∙ fewer args.observation.form args.factors.now n l few
-    ∙ sym (rw c.before.before.enum-told2.given.1)
-
-pub observe-spec : {M : Type 1} → statement M
-observe-spec = tie.close (tie.spec enum_told enum-told-2 squared-requires returns returns-2)
+    ∙ sym (rw c.in-VixSquared.is)
