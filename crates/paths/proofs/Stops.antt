@@ -8,24 +8,28 @@ use Rattle.model.specs.TimeGrid.{last_step}
 use Rattle.model.specs.Walk.{Stop, stop_within}
 use Rattle.model.proofs.First.{first_more, first_stays, first_none, none_some}
 use Rattle.walks.specs.Batch.{Batch, walk_of, observation}
-use Rattle.paths.specs.Run.{RunStop, run_stop, entry_after}
+use Rattle.paths.specs.Run.{RunStop, on_path, run_stop, entry_after}
 
 abbrev pub run_stop_at : ℕ → Stop → RunStop
 run_stop_at p x = record { path = p; stop = x }
 
 module _ (b : Batch) where
+  -- the stop of a path, if it has one
+  abbrev stop_of : ℕ → Option RunStop
+  stop_of q = on_path q (stop_within (walk_of b q) b.simulation.grid.total)
+
   -- a run goes on over a path that does not stop, and stops at one that does
   pub run_goes : (q : ℕ) → run_stop b q ≡ none → stop_within (walk_of b (suc q)) b.simulation.grid.total ≡ none → run_stop b (suc q) ≡ none
   unfolding run_stop
-  run_goes q h e = first_more _ q h ∙ rw e
+  run_goes q h e = first_more stop_of q h ∙ rw e
 
   pub run_stops : (q : ℕ) (x : Stop) → run_stop b q ≡ none → stop_within (walk_of b (suc q)) b.simulation.grid.total ≡ some x → (n : ℕ) → q < n → run_stop b n ≡ some (run_stop_at (suc q) x)
   unfolding run_stop
-  run_stops q x h e n l = first_stays _ (suc q) n (run_stop_at (suc q) x) l (first_more _ q h ∙ rw e)
+  run_stops q x h e n l = first_stays stop_of (suc q) n (run_stop_at (suc q) x) l (first_more stop_of q h ∙ rw e)
 
   pub run_none : (m n : ℕ) → m ≤ n → run_stop b n ≡ none → run_stop b m ≡ none
   unfolding run_stop
-  run_none m n h e = first_none _ m n h e
+  run_none m n h e = first_none stop_of m n h e
 
   -- a run that goes on has no path that stops
   pub run_path : (q n : ℕ) → q < n → run_stop b n ≡ none → stop_within (walk_of b (suc q)) b.simulation.grid.total ≡ none
