@@ -4,6 +4,7 @@ use crate::given::{model_with, scaled, segment, whole};
 use crate::report::{is_at, same, tell};
 use decimal::Decimal;
 use qrh::down_and_out;
+use std::io;
 use vanilla::Estimate;
 
 // A path for each observation, of so many steps, with this barrier.
@@ -105,65 +106,75 @@ fn is_refused(barrier: Decimal, number: u32) -> bool {
 }
 
 // Two paths go through the plain walk, and four side by side.
-fn two_steps(wrong: u64) -> u64 {
+fn two_steps(rt: &impl Print, wrong: u64) -> io::Result<u64> {
     let two = [-0.5, 1.0, -0.5, 0.5];
     let four = [-0.5, 1.0, -0.5, 0.5, -0.5, 1.0, -0.5, 0.5];
     let mut of_two = [0.0; 2];
     let mut of_four = [0.0; 4];
     let mut wrong = wrong;
     wrong = tell(
-        b"two paths to 50 and back, barrier 60: price 0, error 0",
+        rt,
+        "two paths to 50 and back, barrier 60: price 0, error 0",
         vanishes(60, &two, &mut of_two),
         wrong,
-    );
+    )?;
     wrong = tell(
-        b"two paths to 50 and back, barrier 49: the put's own doubles",
+        rt,
+        "two paths to 50 and back, barrier 49: the put's own doubles",
         is_plain(49, &two, &mut of_two),
         wrong,
-    );
+    )?;
     wrong = tell(
-        b"four paths to 50 and back, barrier 50: price 0, error 0",
+        rt,
+        "four paths to 50 and back, barrier 50: price 0, error 0",
         vanishes(50, &four, &mut of_four),
         wrong,
-    );
+    )?;
     tell(
-        b"four paths to 50 and back, barrier 49: the put's own doubles",
+        rt,
+        "four paths to 50 and back, barrier 49: the put's own doubles",
         is_plain(49, &four, &mut of_four),
         wrong,
     )
 }
 
-pub(crate) fn figures(wrong: u64) -> u64 {
+pub(crate) fn figures(rt: &impl Print, wrong: u64) -> io::Result<u64> {
     let mut wrong = wrong;
     wrong = tell(
-        b"P9's draws, put at 200, barrier 50: price 25, error 25",
+        rt,
+        "P9's draws, put at 200, barrier 50: price 25, error 25",
         one_step(50, 25.0, 25.0),
         wrong,
-    );
+    )?;
     wrong = tell(
-        b"P9's draws, put at 200, barrier 99: price 25, error 25",
+        rt,
+        "P9's draws, put at 200, barrier 99: price 25, error 25",
         one_step(99, 25.0, 25.0),
         wrong,
-    );
+    )?;
     wrong = tell(
-        b"P9's draws, put at 200, barrier 100, the spot: price 0, error 0",
+        rt,
+        "P9's draws, put at 200, barrier 100, the spot: price 0, error 0",
         one_step(100, 0.0, 0.0),
         wrong,
-    );
-    wrong = two_steps(wrong);
+    )?;
+    wrong = two_steps(rt, wrong)?;
     wrong = tell(
-        b"draw 0.5 mirrored, put at 200, barrier 60: price 25, error 25",
+        rt,
+        "draw 0.5 mirrored, put at 200, barrier 60: price 25, error 25",
         mirrored(60, 25.0, 25.0),
         wrong,
-    );
+    )?;
     wrong = tell(
-        b"draw 0.5 mirrored, put at 200, barrier 49: price 100, error 50",
+        rt,
+        "draw 0.5 mirrored, put at 200, barrier 49: price 100, error 50",
         mirrored(49, 100.0, 50.0),
         wrong,
-    );
-    wrong = tell(b"barrier 0: 27", is_refused(whole(0), 27), wrong);
+    )?;
+    wrong = tell(rt, "barrier 0: 27", is_refused(whole(0), 27), wrong)?;
     tell(
-        b"barrier of scale 29: 1",
+        rt,
+        "barrier of scale 29: 1",
         is_refused(scaled(1, 29), 1),
         wrong,
     )

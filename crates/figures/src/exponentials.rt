@@ -1,5 +1,6 @@
 // P11 and the limits of the exponential.
 use crate::report::{same, tell};
+use std::io;
 
 // 2^1023.
 const TWO_1023: f64 = 8.98846567431158e307;
@@ -37,25 +38,28 @@ fn number_of(dimension: usize, input: &[f64], output: &mut [f64]) -> u32 {
     qrh::qrh_exponential(dimension, input, output, &mut workspace).number
 }
 
-pub(crate) fn figures(wrong: u64) -> u64 {
+pub(crate) fn figures(rt: &impl Print, wrong: u64) -> io::Result<u64> {
     let mut wrong = wrong;
     wrong = tell(
-        b"P11: [0 1; 0 0]: one squaring, [1 1; 0 1]",
+        rt,
+        "P11: [0 1; 0 0]: one squaring, [1 1; 0 1]",
         nilpotent(),
         wrong,
-    );
-    wrong = tell(b"norm 0.5: no squaring", one_entry(0.5, 0, 0), wrong);
-    wrong = tell(b"norm 2^1023: 17", one_entry(TWO_1023, 17, 0), wrong);
-    wrong = tell(b"dimension 67 passes", largest() == 0, wrong);
+    )?;
+    wrong = tell(rt, "norm 0.5: no squaring", one_entry(0.5, 0, 0), wrong)?;
+    wrong = tell(rt, "norm 2^1023: 17", one_entry(TWO_1023, 17, 0), wrong)?;
+    wrong = tell(rt, "dimension 67 passes", largest() == 0, wrong)?;
     let mut output = [0.0; 4624];
     wrong = tell(
-        b"dimension 68: 26",
+        rt,
+        "dimension 68: 26",
         number_of(68, &[0.0; 4624], &mut output) == 26,
         wrong,
-    );
+    )?;
     let mut none = [0.0; 0];
     tell(
-        b"dimension 0: 26",
+        rt,
+        "dimension 0: 26",
         number_of(0, &[0.0; 0], &mut none) == 26,
         wrong,
     )

@@ -1,7 +1,7 @@
 // Runs the checked figures (rules 19.1 to 19.3), and compares each with what it should be.
 #![tactic(auto)]
 
-use libc::STDOUT_FILENO;
+use std::io;
 
 mod barriers;
 mod exponentials;
@@ -12,13 +12,12 @@ mod traces;
 mod vanillas;
 mod vix;
 
-fn main() {
-    let mut wrong = scalar::figures(0);
-    wrong = traces::figures(wrong);
-    wrong = vanillas::figures(wrong);
-    wrong = barriers::figures(wrong);
-    wrong = exponentials::figures(wrong);
-    wrong = vix::figures(wrong);
-    io::print_decimal(STDOUT_FILENO, wrong);
-    io::write_all(STDOUT_FILENO, b" wrong\n");
+fn main(rt: HostRuntime) -> io::Result<()> {
+    let mut wrong = scalar::figures(&rt, 0)?;
+    wrong = traces::figures(&rt, wrong)?;
+    wrong = vanillas::figures(&rt, wrong)?;
+    wrong = barriers::figures(&rt, wrong)?;
+    wrong = exponentials::figures(&rt, wrong)?;
+    wrong = vix::figures(&rt, wrong)?;
+    println!(rt; "{wrong} wrong")
 }

@@ -1,16 +1,15 @@
 // A line for each figure, and how doubles are compared.
-use libc::STDOUT_FILENO;
+use std::io;
 use std::num::wrapping_add_u64;
 
 // Says whether a figure is right, and answers how many were wrong so far.
-pub(crate) fn tell(figure: &[u8], right: bool, wrong: u64) -> u64 {
-    io::write_all(STDOUT_FILENO, figure);
+pub(crate) fn tell(rt: &impl Print, figure: &str, right: bool, wrong: u64) -> io::Result<u64> {
     if right {
-        io::write_all(STDOUT_FILENO, b": ok\n");
-        return wrong;
+        println!(rt; "{figure}: ok")?;
+        return Ok(wrong);
     }
-    io::write_all(STDOUT_FILENO, b": WRONG\n");
-    wrapping_add_u64(wrong, 1)
+    println!(rt; "{figure}: WRONG")?;
+    Ok(wrapping_add_u64(wrong, 1))
 }
 
 // The bits of a double; every NaN has those of one.

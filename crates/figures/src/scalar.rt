@@ -2,6 +2,7 @@
 use crate::given::{scaled, whole};
 use crate::report::{bits, is_at, same, tell};
 use decimal::Decimal;
+use std::io;
 
 // 2^-1074.
 const SMALLEST: f64 = 5e-324;
@@ -29,40 +30,47 @@ fn wide() -> Decimal {
     }
 }
 
-pub(crate) fn figures(wrong: u64) -> u64 {
+pub(crate) fn figures(rt: &impl Print, wrong: u64) -> io::Result<u64> {
     let mut wrong = wrong;
     wrong = tell(
-        b"P1: 1 at scale 1 has the bits 3FB999999999999A",
+        rt,
+        "P1: 1 at scale 1 has the bits 3FB999999999999A",
         bits(qrh::qrh_convert(scaled(1, 1)).value) == 0x3fb9_9999_9999_999a,
         wrong,
-    );
+    )?;
     wrong = tell(
-        b"P2: 9007199254740993 becomes 9007199254740992",
+        rt,
+        "P2: 9007199254740993 becomes 9007199254740992",
         converts(whole(9_007_199_254_740_993), 9007199254740992.0),
         wrong,
-    );
+    )?;
     wrong = tell(
-        b"P3: 9007199254740995 becomes 9007199254740996",
+        rt,
+        "P3: 9007199254740995 becomes 9007199254740996",
         converts(whole(9_007_199_254_740_995), 9007199254740996.0),
         wrong,
-    );
+    )?;
     wrong = tell(
-        b"P4: 90071992547409930000001 at scale 7 becomes 9007199254740994",
+        rt,
+        "P4: 90071992547409930000001 at scale 7 becomes 9007199254740994",
         converts(wide(), 9007199254740994.0),
         wrong,
-    );
+    )?;
     wrong = tell(
-        b"P5: zero at scale 29 becomes +0.0",
+        rt,
+        "P5: zero at scale 29 becomes +0.0",
         converts(scaled(0, 29), 0.0),
         wrong,
-    );
+    )?;
     wrong = tell(
-        b"P5: one at scale 29 is refused by 1",
+        rt,
+        "P5: one at scale 29 is refused by 1",
         is_refused(scaled(1, 29)),
         wrong,
-    );
+    )?;
     tell(
-        b"P6: the root of 2^-1074 is 2^-537",
+        rt,
+        "P6: the root of 2^-1074 is 2^-537",
         bits(qrh::qrh_sqrt(SMALLEST)) == (1023 - 537) * 0x10_0000_0000_0000,
         wrong,
     )

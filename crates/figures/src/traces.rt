@@ -1,6 +1,7 @@
 // P7, P8 and the limits of a model and a schedule: traces.
 use crate::given::{model_with, segment, two_segments};
 use crate::report::{is_at, same, tell};
+use std::io;
 
 // 2^90, and the doubles next to 1.
 const TWO_90: f64 = 1237940039285380274899124224.0;
@@ -131,76 +132,88 @@ fn uses_own_dt() -> bool {
     (answer.number == 0) & same(z[1], 0.375) & same(z[2], 0.140625) & same(z[3], 0.0234375)
 }
 
-fn ranges(wrong: u64) -> u64 {
+fn ranges(rt: &impl Print, wrong: u64) -> io::Result<u64> {
     let most = TWO_90;
     let above = ABOVE_ONE * TWO_90;
     let least = 1.0 / TWO_90;
     let below = BELOW_ONE / TWO_90;
     let mut wrong = wrong;
     wrong = tell(
-        b"weight 2^-90 and discount 2^90 pass",
+        rt,
+        "weight 2^-90 and discount 2^90 pass",
         passes(least, most),
         wrong,
-    );
+    )?;
     wrong = tell(
-        b"weight 2^90 and discount 2^-90 pass",
+        rt,
+        "weight 2^90 and discount 2^-90 pass",
         passes(most, least),
         wrong,
-    );
+    )?;
     wrong = tell(
-        b"the weight below 2^-90: 4, weights, 1",
+        rt,
+        "the weight below 2^-90: 4, weights, 1",
         is_out_of_range(below, most, 1),
         wrong,
-    );
+    )?;
     wrong = tell(
-        b"the weight above 2^90: 4, weights, 1",
+        rt,
+        "the weight above 2^90: 4, weights, 1",
         is_out_of_range(above, least, 1),
         wrong,
-    );
+    )?;
     wrong = tell(
-        b"the discount below 2^-90: 4, discounts, 1",
+        rt,
+        "the discount below 2^-90: 4, discounts, 1",
         is_out_of_range(most, below, 2),
         wrong,
-    );
+    )?;
     tell(
-        b"the discount above 2^90: 4, discounts, 1",
+        rt,
+        "the discount above 2^90: 4, discounts, 1",
         is_out_of_range(least, above, 2),
         wrong,
     )
 }
 
-pub(crate) fn figures(wrong: u64) -> u64 {
+pub(crate) fn figures(rt: &impl Print, wrong: u64) -> io::Result<u64> {
     let mut wrong = wrong;
     wrong = tell(
-        b"P7: draw 0.5: spot 150, factor and z 0.25, variance 4.0625",
+        rt,
+        "P7: draw 0.5: spot 150, factor and z 0.25, variance 4.0625",
         leads_to(0.5, 150.0, 0.25, 4.0625),
         wrong,
-    );
+    )?;
     wrong = tell(
-        b"P8: draw -1: spot 0, z -0.5, variance 4.25",
+        rt,
+        "P8: draw -1: spot 0, z -0.5, variance 4.25",
         leads_to(-1.0, 0.0, -0.5, 4.25),
         wrong,
-    );
+    )?;
     wrong = tell(
-        b"10 factors pass",
+        rt,
+        "10 factors pass",
         number_of(&[1.0; 10], &[1.0; 10]) == 0,
         wrong,
-    );
+    )?;
     wrong = tell(
-        b"11 factors: 2",
+        rt,
+        "11 factors: 2",
         number_of(&[1.0; 11], &[1.0; 11]) == 2,
         wrong,
-    );
-    wrong = tell(b"4,096 steps pass", many_steps(4096, 0, 0, 100.0), wrong);
+    )?;
+    wrong = tell(rt, "4,096 steps pass", many_steps(4096, 0, 0, 100.0), wrong)?;
     wrong = tell(
-        b"4,097 steps: 14, segment 1",
+        rt,
+        "4,097 steps: 14, segment 1",
         many_steps(4097, 14, 1, 0.0),
         wrong,
-    );
+    )?;
     wrong = tell(
-        b"segments (0.25, 2), (0.5, 3): step 2 uses 0.25, step 3 uses 0.5",
+        rt,
+        "segments (0.25, 2), (0.5, 3): step 2 uses 0.25, step 3 uses 0.5",
         uses_own_dt(),
         wrong,
-    );
-    ranges(wrong)
+    )?;
+    ranges(rt, wrong)
 }

@@ -1,6 +1,7 @@
 // P9, P10 and the least number of paths: vanilla batches, a call at 100 over one step.
 use crate::given::{model_with, segment, whole};
 use crate::report::{is_at, same, tell};
+use std::io;
 use vanilla::Estimate;
 
 // So many paths with these draws.
@@ -51,17 +52,19 @@ fn one_path() -> bool {
     call_at_100(1, &[0.5], &mut observations).number == 19
 }
 
-pub(crate) fn figures(wrong: u64) -> u64 {
+pub(crate) fn figures(rt: &impl Print, wrong: u64) -> io::Result<u64> {
     let mut wrong = wrong;
     wrong = tell(
-        b"P9: both as two paths, call at 100: price 25, error 25, spot mean 75, error 75, one non-positive, 2 steps",
+        rt,
+        "P9: both as two paths, call at 100: price 25, error 25, spot mean 75, error 75, one non-positive, 2 steps",
         two_paths(),
         wrong,
-    );
+    )?;
     wrong = tell(
-        b"P10: second draw infinite: 22, path 2, step 1, spot, 2 steps",
+        rt,
+        "P10: second draw infinite: 22, path 2, step 1, spot, 2 steps",
         infinite_draw(),
         wrong,
-    );
-    tell(b"one path: 19", one_path(), wrong)
+    )?;
+    tell(rt, "one path: 19", one_path(), wrong)
 }

@@ -1,6 +1,7 @@
 // P12: the evaluation of the VIX.
 use crate::given::{model_with, quarter, whole};
 use crate::report::{same, tell};
+use std::io;
 use vix_value::Factors;
 
 fn flat() -> bool {
@@ -20,9 +21,10 @@ fn flat() -> bool {
     (answer.number == 0) & same(answer.squared, 40000.0) & same(answer.index, 200.0)
 }
 
-pub(crate) fn figures(wrong: u64) -> u64 {
+pub(crate) fn figures(rt: &impl Print, wrong: u64) -> io::Result<u64> {
     tell(
-        b"P12: a = 0, window 0.25: VIX squared 40000, index 200",
+        rt,
+        "P12: a = 0, window 0.25: VIX squared 40000, index 200",
         flat(),
         wrong,
     )

@@ -9,8 +9,7 @@ use model::{Model, Schedule};
 use vanilla::{Estimate, Terms};
 
 // A batch of puts that vanish once the spot is at the barrier or below.
-#[unsafe(no_mangle)]
-pub extern "C" fn qrh_down_and_out(
+pub fn qrh_down_and_out(
     weights: &[f64],
     discounts: &[f64],
     model: Model,
@@ -48,8 +47,7 @@ pub extern "C" fn qrh_down_and_out(
 }
 
 // A mirrored batch of them: path 2i has the draws of path 2i - 1, negated.
-#[unsafe(no_mangle)]
-pub extern "C" fn qrh_mirrored_down_and_out(
+pub fn qrh_mirrored_down_and_out(
     weights: &[f64],
     discounts: &[f64],
     model: Model,

@@ -1,6 +1,5 @@
-// The outer calls, as C and Rust programs link them (include/qrh.h). An answer begins with its
-// number, 0 where the call is answered and else the refusal's, and its place, 0 where there is
-// none.
+// The outer calls. An answer begins with its number, 0 where the call is answered and else the
+// refusal's, and its place, 0 where there is none. The crate qrh_c exports them under C names.
 #![tactic(auto)]
 
 ghost use Rattle.std.specs.Prelude.{◌≡◌, true, false};
@@ -36,8 +35,7 @@ pub struct Conversion {
     pub value: f64,
 }
 
-#[unsafe(no_mangle)]
-pub extern "C" fn qrh_convert(d: Decimal) -> Conversion
+pub fn qrh_convert(d: Decimal) -> Conversion
     ensures answer { result ≡ conversion (convert d) }
     ensures nearest { ConvertsToNearest d result.value }
 {
@@ -59,16 +57,14 @@ pub extern "C" fn qrh_convert(d: Decimal) -> Conversion
     answer
 }
 
-#[unsafe(no_mangle)]
-pub extern "C" fn qrh_sqrt(x: f64) -> f64
+pub fn qrh_sqrt(x: f64) -> f64
     ensures root { result ≡ root binary64 x }
     ensures nearest { RootIsNearest x result }
 {
     numeric::sqrt(x)
 }
 
-#[unsafe(no_mangle)]
-pub extern "C" fn qrh_trace(
+pub fn qrh_trace(
     weights: &[f64],
     discounts: &[f64],
     model: Model,
@@ -93,8 +89,7 @@ pub extern "C" fn qrh_trace(
 }
 
 // A vanilla batch: a row of observations a path, a column a segment.
-#[unsafe(no_mangle)]
-pub extern "C" fn qrh_vanilla(
+pub fn qrh_vanilla(
     weights: &[f64],
     discounts: &[f64],
     model: Model,
@@ -132,8 +127,7 @@ pub extern "C" fn qrh_vanilla(
 }
 
 // A mirrored vanilla batch: path 2i has the draws of path 2i - 1, negated.
-#[unsafe(no_mangle)]
-pub extern "C" fn qrh_mirrored(
+pub fn qrh_mirrored(
     weights: &[f64],
     discounts: &[f64],
     model: Model,
@@ -170,8 +164,7 @@ pub extern "C" fn qrh_mirrored(
     )
 }
 
-#[unsafe(no_mangle)]
-pub extern "C" fn qrh_exponential(
+pub fn qrh_exponential(
     dimension: usize,
     input: &[f64],
     output: &mut [f64],
@@ -184,8 +177,7 @@ pub extern "C" fn qrh_exponential(
     exponentiation::exponentiate(dimension, input, output, workspace)
 }
 
-#[unsafe(no_mangle)]
-pub extern "C" fn qrh_vix(
+pub fn qrh_vix(
     weights: &[f64],
     discounts: &[f64],
     model: Model,
@@ -201,8 +193,7 @@ pub extern "C" fn qrh_vix(
 }
 
 // A VIX batch: a row of raw VIX squared a path, a column a segment.
-#[unsafe(no_mangle)]
-pub extern "C" fn qrh_vix_batch(
+pub fn qrh_vix_batch(
     weights: &[f64],
     discounts: &[f64],
     model: Model,

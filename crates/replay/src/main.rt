@@ -4,9 +4,10 @@
 // them.
 #![tactic(auto)]
 
-ghost use Rattle.std.specs.Prelude.{◌≡◌, length};
+ghost use Rattle.std.specs.Prelude.{◌≡◌, ◌≤◌, length, IfOk};
 
-use libc::{STDIN_FILENO, STDOUT_FILENO};
+use std::io;
+use std::io::Read;
 
 mod cases;
 mod exponential;
@@ -20,54 +21,51 @@ mod vanillas;
 mod vix;
 mod words;
 
-fn say(text: &[u8], number: u64) {
-    io::write_all(STDOUT_FILENO, text);
-    io::print_decimal(STDOUT_FILENO, number);
+fn say(rt: &impl Print, text: &str, number: u64) -> io::Result<()> {
+    print!(rt; "{text}{number}")
 }
 
 // Runs the cases of one call, and says what came of them.
-fn report(file: &[u8], call: u64, name: &[u8]) {
+fn report(rt: &impl Print, file: &[u8], call: u64, name: &str) -> io::Result<()> {
     let tally = cases::tally_of(file, call);
-    io::write_all(STDOUT_FILENO, name);
-    say(b": ", tally.cases);
+    print!(rt; "{name}")?;
+    say(rt, ": ", tally.cases)?;
     if tally.different == 0 {
-        io::write_all(STDOUT_FILENO, b" cases, none differs\n");
-        return;
+        return println!(rt; " cases, none differs");
     }
-    say(b" cases, ", tally.different);
-    say(b" differ, the first is case ", tally.first);
-    io::write_all(STDOUT_FILENO, b"\n");
+    say(rt, " cases, ", tally.different)?;
+    say(rt, " differ, the first is case ", tally.first)?;
+    println!(rt; "")
 }
 
-fn report_values_and_paths(file: &[u8]) {
-    report(file, 1, b"convert");
-    report(file, 2, b"square root");
-    report(file, 3, b"trace");
+fn report_values_and_paths(rt: &impl Print, file: &[u8]) -> io::Result<()> {
+    report(rt, file, 1, "convert")?;
+    report(rt, file, 2, "square root")?;
+    report(rt, file, 3, "trace")
 }
 
-fn report_vanillas(file: &[u8]) {
-    report(file, 4, b"vanilla batch");
-    report(file, 5, b"mirrored batch");
-    report(file, 9, b"down-and-out batch");
-    report(file, 10, b"mirrored down-and-out batch");
+fn report_vanillas(rt: &impl Print, file: &[u8]) -> io::Result<()> {
+    report(rt, file, 4, "vanilla batch")?;
+    report(rt, file, 5, "mirrored batch")?;
+    report(rt, file, 9, "down-and-out batch")?;
+    report(rt, file, 10, "mirrored down-and-out batch")
 }
 
-fn report_vix_and_matrices(file: &[u8]) {
-    report(file, 6, b"VIX evaluation");
-    report(file, 7, b"VIX batch");
-    report(file, 8, b"exponential");
+fn report_vix_and_matrices(rt: &impl Print, file: &[u8]) -> io::Result<()> {
+    report(rt, file, 6, "VIX evaluation")?;
+    report(rt, file, 7, "VIX batch")?;
+    report(rt, file, 8, "exponential")
 }
 
-fn report_all(file: &[u8]) {
+fn report_all(rt: &impl Print, file: &[u8]) -> io::Result<()> {
     if !cases::is_whole(file) {
-        io::write_all(STDOUT_FILENO, b"this is no whole file of recorded cases\n");
-        return;
+        return println!(rt; "this is no whole file of recorded cases");
     }
-    say(b"recorded cases: ", cases::count(file));
-    io::write_all(STDOUT_FILENO, b"\n");
-    report_values_and_paths(file);
-    report_vanillas(file);
-    report_vix_and_matrices(file);
+    say(rt, "recorded cases: ", cases::count(file))?;
+    println!(rt; "")?;
+    report_values_and_paths(rt, file)?;
+    report_vanillas(rt, file)?;
+    report_vix_and_matrices(rt, file)
 }
 
 // Room for a file. Only its length is told: main's proof need not go through its bytes.
@@ -77,8 +75,23 @@ fn room() -> [u8; 1048576]
     [0; 1048576]
 }
 
-fn main() {
+// Reads until the room is full or the input ends, and answers how many bytes it put at its start.
+fn read_full(input: &mut impl Read, room: &mut [u8]) -> io::Result<usize>
+    ensures { IfOk result (λ n. n ≤ length room.new) }
+{
+    let mut done = 0;
+    while done < room.len() {
+        let n = input.read(&mut room[done..])?;
+        if n == 0 {
+            break;
+        }
+        done += n;
+    }
+    Ok(done)
+}
+
+fn main(rt: HostRuntime) -> io::Result<()> {
     let mut file = room();
-    let n = io::read_full(STDIN_FILENO, &mut file);
-    report_all(&file[..n]);
+    let n = read_full(&mut rt.stdin(), &mut file)?;
+    report_all(&rt, &file[..n])
 }
