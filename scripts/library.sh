@@ -1,9 +1,10 @@
 # Sourced by the scripts, which it takes to the repository's root. It has what they share: the name
 # of the library, the tools that they need, and the toolchain that the proofs are written for.
 
-# The crate that exports the calls, which gives the library its name. clients/qrh-sys/build.rs says
-# it once more, for cargo.
+# The library's name, lib$core.a, and the crate that exports its calls. clients/qrh-sys/build.rs has
+# the name once more, for cargo.
 core=qrh
+exports=qrh_c
 
 library_given=${QRH_LIB_DIR:+$(realpath "$QRH_LIB_DIR")}
 cd "$(dirname "${BASH_SOURCE[0]}")/.."
@@ -29,6 +30,15 @@ same_toolchain() {
     return 1
 }
 
+# build: proves the core, and writes the library to target/staticlib. A library that has not changed
+# is not written again.
+build() {
+    local made=crates/$exports/out/lib$exports.a written=target/staticlib/lib$core.a
+    (cd "crates/$exports" && rt lib) || return
+    mkdir -p target/staticlib
+    cmp --quiet "$made" "$written" || cp "$made" "$written"
+}
+
 # library: sets QRH_LIB_DIR, the folder of the library, and LIBRARY, its file. Where QRH_LIB_DIR is
 # not given, the core is proved and the library built, unless nothing has changed.
 library() {
@@ -38,7 +48,7 @@ library() {
         same_toolchain || true
         mkdir -p target
         echo "Proving and building the core: some minutes the first time." >&2
-        if ! rt staticlib "$core" > target/staticlib.out 2>&1; then
+        if ! build > target/staticlib.out 2>&1; then
             cat target/staticlib.out >&2
             return 1
         fi

@@ -20,11 +20,11 @@ SPECIFICATION = Path("docs/SPECIFICATION.md")
 
 # A line that begins a definition: `unfoldable pub NAME : ..`, `pub record NAME ..`, `NAME : ..`
 START = re.compile(r"((?:abbrev |unfoldable )?(?:pub )?)(record )?(?!use |mod )(\S+)(?= :|$| )")
-TOKEN = re.compile(r"[^\s(){};,\[\]|.⌜⌝]+|[(){};,\[\]|.]")
-WORD = re.compile(r"[^\s(){};,\[\]|.⌜⌝]+$")
+TOKEN = re.compile(r"[^\s(){};,\[\]|.]+|[(){};,\[\]|.]")
+WORD = re.compile(r"[^\s(){};,\[\]|.]+$")
 OPEN, CLOSED = ("(", "{", "["), (")", "}", "]")
 CONTRACT = re.compile(r'^pub extern "C" fn .*?(?=^\{)', re.MULTILINE | re.DOTALL)
-USE = re.compile(r"^use (\w+)::(?:\w+::)*(\w+);", re.MULTILINE)
+USE = re.compile(r"^(?:pub )?use (\w+)::(?:\w+::)*(?:(\w+)|\{([^}]*)\});", re.MULTILINE)
 IMPORT = re.compile(r"(?:pub |ghost )?use (\S+?)(?:\.\{([^}]*)\}| as (\S+?))?;?$")
 
 
@@ -88,6 +88,15 @@ def read_import(names, line):
             names[words[-1]] = (place, words[0])
 
 
+def used_types(path, text):
+    """The names that a file of src/ uses of other modules, each by its crate."""
+    used = {}
+    for of, one, listed in re.findall(USE, text):
+        for name in [one] if one else re.findall(r"\w+", listed):
+            used[name] = path.parts[1] if of in ("crate", "super") else of
+    return used
+
+
 class Types:
     """The structs and enums of src/, by crate and name: file, lines and the types inside."""
 
@@ -97,7 +106,7 @@ class Types:
             self.read(path, path.read_text())
 
     def read(self, path, text):
-        used = {name: of for of, name in re.findall(USE, text)}
+        used = used_types(path, text)
         lines = text.splitlines()
         for i, line in enumerate(lines):
             if found := re.match(r"(?:pub )?(?:struct|enum) (\w+)", line):
@@ -129,12 +138,12 @@ class Reach:
 
     def follow(self, place, name):
         """A name of an imported module: a definition, or a type that src/ declares."""
-        found = re.match(r"Rattle·(\w+)(?:·specs\.specs|\.specs)\.(.*)", place)
+        found = re.match(r"Rattle\.(\w+)\.specs\.(.*)", place)
         if not found:
             return
         crate, module = found.groups()
         if module.startswith("declared."):
-            parts = [part for part in module.split(".")[1:] if part != "the-variants"]
+            parts = [part for part in module.split(".")[1:] if part != "TheVariants"]
             self.types.add((crate, parts[-1]))
         elif (crate, module) in self.files:
             self.name(self.files[crate, module], name)
@@ -183,7 +192,14 @@ def free_names(text, imports, is_record=False):
         after = tokens[i + 1] if i + 1 < len(tokens) else ""
         if word == "λ":
             end = tokens.index(".", i)
-            scopes[-1] |= set(tokens[i:end])
+            in_type = False
+            for token in tokens[i + 1 : end]:
+                if token == ":" or token in CLOSED:
+                    in_type = token == ":"
+                elif not in_type:
+                    scopes[-1].add(token)
+                elif WORD.match(token) and not any(token in scope for scope in scopes):
+                    names.append(token)
             i = end
         elif word == "let":
             scopes[-1].add(after)
@@ -211,7 +227,7 @@ def free_names(text, imports, is_record=False):
 
 
 def is_constructor(word, imports):
-    return "the-variants" in imports.get(word, ("", None))[0]
+    return "TheVariants" in imports.get(word, ("", None))[0]
 
 
 def variables(tokens, imports):
@@ -240,7 +256,7 @@ def exported(crate, reach):
         names = {}
         for line in re.findall(r"^ghost use [^;]*;", text, re.MULTILINE):
             read_import(names, " ".join(line.split()))
-        used = {name: of for of, name in re.findall(USE, text)}
+        used = used_types(path, text)
         for contract in re.findall(CONTRACT, text):
             functions += 1
             lines_of_contracts += contract.count("\n")
@@ -248,7 +264,8 @@ def exported(crate, reach):
             for name in re.findall(r"\b[A-Z]\w*", signature):
                 reach.types.add((used.get(name, crate), name))
             for clause in clauses:
-                for name in free_names(clause, names):
+                # Before its bracket stands its label.
+                for name in free_names(clause[clause.index("{") :], names):
                     if name in names:
                         reach.follow(*names[name])
     return functions, lines_of_contracts

@@ -5,4 +5,4 @@
 set -euo pipefail
 . "$(dirname "$0")/../scripts/library.sh"
 need "the definitions are followed by it" python3
-python3 tests/believe.py "$core" "$@"
+python3 tests/believe.py "$exports" "$@"

@@ -4,7 +4,7 @@
 use std::env;
 use std::path::PathBuf;
 
-/// The crate that exports the calls: the library is libNAME.a (scripts/library.sh has it too).
+/// The library's name: it is libNAME.a (scripts/library.sh has it too).
 const NAME: &str = "qrh";
 
 fn main() {
@@ -20,8 +20,8 @@ fn main() {
     println!("cargo::rerun-if-changed={}", library.display());
     if !library.exists() {
         println!(
-            "cargo::error={} is not there: `rt staticlib {NAME}` makes it, and QRH_LIB_DIR names \
-             another folder",
+            "cargo::error={} is not there: scripts/build.sh makes it, and QRH_LIB_DIR names another \
+             folder",
             library.display()
         );
     }
