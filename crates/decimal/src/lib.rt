@@ -37,6 +37,7 @@ pub fn is_zero(d: Decimal) -> bool
 }
 
 // A negative zero is zero.
+#[tactic(auto, using(crate::proofs::Zero::negative_is))]
 pub fn is_negative(d: Decimal) -> bool
     ensures { result ≡ is_negative d }
 {

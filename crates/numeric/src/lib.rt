@@ -92,6 +92,7 @@ pub fn positive_part(v: f64) -> f64
 }
 
 // Rust's x.max(y), as a running maximum x has it, which is no NaN: a NaN for y is passed over.
+#[tactic(auto, unfolding(crate::specs::Double::larger))]
 pub fn max(x: f64, y: f64) -> f64
     ensures { result ≡ larger x y }
 {
@@ -99,6 +100,7 @@ pub fn max(x: f64, y: f64) -> f64
 }
 
 // Rust's x.min(y), as a running minimum x has it, which is no NaN: a NaN for y is passed over.
+#[tactic(auto, unfolding(crate::specs::Double::smaller))]
 pub fn min(x: f64, y: f64) -> f64
     ensures { result ≡ smaller x y }
 {
