@@ -81,17 +81,21 @@ path_some p (some y) x e =
     (ap (λ (z : RunStop). z.path) (sym same), ap (λ (z : RunStop). some z.stop) same)
 
 module _ (b : Batch) where
+  -- the stop of a path, if it has one
+  abbrev stop_of : ℕ → Option RunStop
+  stop_of p = on_path p (stop_within (walk_of b p) b.simulation.grid.total)
+
   -- a run goes on exactly where each step of its paths is finite
   run_finite : (n : ℕ) → run_stop b n ≡ none → FiniteBefore b (suc n)
   unfolding run_stop
   run_finite n e r k h l i =
       stop_finite (walk_of b r) b.simulation.grid.total
-      (path_none r _ (none_at _ n r e h (omega arith))) k i.from i.upto
+      (path_none r _ (none_at stop_of n r e h (omega arith))) k i.from i.upto
 
   finite_run : (n : ℕ) → FiniteBefore b (suc n) → run_stop b n ≡ none
   unfolding run_stop
   finite_run n h =
-      none_all _ n
+      none_all stop_of n
       (λ r l m.
       rw
       (finite_stop (walk_of b r) b.simulation.grid.total
@@ -103,7 +107,7 @@ module _ (b : Batch) where
       → FirstFailure b x.path x.stop.step x.stop.quantity
   unfolding run_stop
   run_first n x few e =
-      let r = first_at _ n x e in
+      let r = first_at stop_of n x e in
       let here = path_some r.0 _ x r.1.here in
       let stops : StopsAt (walk_of b x.path) b.simulation.grid.total x.stop =
       stop_first (walk_of b x.path) b.simulation.grid.total x.stop

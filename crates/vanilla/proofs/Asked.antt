@@ -12,7 +12,6 @@ use Rattle.refusal.specs.Questions.{Question, first_no}
 use Rattle.refusal.specs.Inner.Asking.{or_later}
 use Rattle.refusal.proofs.Laws.{append, then, stops, passed_first}
 use Rattle.model.specs.declared.Simulation.{Simulation}
-use Rattle.model.specs.Simulation.{simulation_of}
 use Rattle.model.specs.Inner.InUse.{simulation_in_use}
 use Rattle.admission.specs.declared.ModelAdmission.{ModelAdmission}
 use Rattle.admission.specs.Questions.{model_questions}
@@ -21,7 +20,7 @@ use Rattle.vix.specs.Inner.Form.{no_form}
 use Rattle.walks.specs.declared.Batch.{Batch as Handed}
 use Rattle.walks.specs.declared.Observation.{Observation}
 use Rattle.walks.specs.declared.Observed.TheVariants.{Spot}
-use Rattle.walks.specs.Batch.{Batch, batch_on}
+use Rattle.walks.specs.Batch.{batch_on}
 use Rattle.walks.specs.Inner.Handed.{observe_by, batch_of}
 use Rattle.estimates.specs.declared.Payoff.{Payoff}
 use Rattle.batch.specs.declared.Priced.{Priced}
