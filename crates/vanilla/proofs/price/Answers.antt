@@ -6,6 +6,8 @@ use Rattle.vanilla.specs.Call.{vanilla_inputs}
 use Rattle.vanilla.proofs.Asked.{refused, is_ready, priced_through}
 use Rattle.vanilla.proofs.price.Goals as goal
 
+-- ---- `inputs` is what is given, and `first` the outcome of the first questions
+
 pub returns-in-Refused : goal.returns-in-Refused
 returns-in-Refused c =
     let inputs = vanilla_inputs (given c.args.weights.now c.args.discounts.now c.args.model c.args.schedule) c.args.order c.args.draws.now in
