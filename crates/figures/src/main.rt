@@ -10,7 +10,7 @@ mod report;
 mod scalar;
 mod traces;
 mod vanillas;
-mod vix;
+mod vix_evaluations;
 
 fn main(rt: HostRuntime) -> io::Result<()> {
     let mut wrong = scalar::figures(&rt, 0)?;
@@ -18,6 +18,6 @@ fn main(rt: HostRuntime) -> io::Result<()> {
     wrong = vanillas::figures(&rt, wrong)?;
     wrong = barriers::figures(&rt, wrong)?;
     wrong = exponentials::figures(&rt, wrong)?;
-    wrong = vix::figures(&rt, wrong)?;
+    wrong = vix_evaluations::figures(&rt, wrong)?;
     println!(rt; "{wrong} wrong")
 }

@@ -1,6 +1,6 @@
 // The cases of a file, one after another.
 use crate::words::{END, after, after_list, word};
-use crate::{exponential, modelled, scalar};
+use crate::{exponentials, modelled, scalar};
 use std::num::wrapping_add_u64;
 
 // The first word of a file: the bytes QRHCASE1.
@@ -52,7 +52,7 @@ fn is_same(file: &[u8], call: u64, at: usize, end: usize) -> bool {
     match call {
         1 => scalar::convert(file, at, end),
         2 => scalar::square_root(file, at, end),
-        8 => exponential::replay(file, at, end),
+        8 => exponentials::replay(file, at, end),
         _ => modelled::replay(file, call, at, end),
     }
 }

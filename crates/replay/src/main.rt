@@ -10,7 +10,7 @@ use std::io;
 use std::io::Read;
 
 mod cases;
-mod exponential;
+mod exponentials;
 mod inputs;
 mod modelled;
 mod outcome;
@@ -18,7 +18,7 @@ mod scalar;
 mod tables;
 mod traces;
 mod vanillas;
-mod vix;
+mod vix_calls;
 mod words;
 
 fn say(rt: &impl Print, text: &str, number: u64) -> io::Result<()> {

@@ -2,7 +2,7 @@
 use crate::inputs::{after_model, read_model};
 use crate::tables::{list, zeros};
 use crate::words::after_list;
-use crate::{traces, vanillas, vix};
+use crate::{traces, vanillas, vix_calls};
 
 pub(crate) fn replay(file: &[u8], call: u64, at: usize, end: usize) -> bool {
     let discounts_at = after_list(file, at);
@@ -17,8 +17,8 @@ pub(crate) fn replay(file: &[u8], call: u64, at: usize, end: usize) -> bool {
     let model = read_model(file, model_at);
     match call {
         3 => traces::replay(file, rest_at, end, weights, discounts, model),
-        6 => vix::evaluation(file, rest_at, end, weights, discounts, model),
-        7 => vix::batch(file, rest_at, end, weights, discounts, model),
+        6 => vix_calls::evaluation(file, rest_at, end, weights, discounts, model),
+        7 => vix_calls::batch(file, rest_at, end, weights, discounts, model),
         _ => vanillas::replay(file, call, rest_at, end, weights, discounts, model),
     }
 }
