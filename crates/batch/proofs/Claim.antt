@@ -236,7 +236,7 @@ module _
                 first = first;
                 taken = refl;
                 named = refl;
-                no_doubles_lem = refl;
+                doubles_none = refl;
                 no_counts = refl;
               };
           otherwise = λ none. absurd (none fails);

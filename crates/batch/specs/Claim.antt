@@ -150,7 +150,7 @@ pub record NamesFirst (b : Batch) (answer : BatchAnswer) : Type 0 where
   pub first : FirstFailure b path step quantity
   pub taken : answer.steps ≡ pred path * b.simulation.grid.total + step
   pub named : answer.place ≡ path ∷ step ∷ quantity_number quantity ∷ answer.steps ∷ []
-  pub no_doubles_lem : answer.doubles ≡ no_doubles
+  pub doubles_none : answer.doubles ≡ no_doubles
   pub no_counts : answer.counts ≡ counts_of b.observed 0 0
 
 -- ---- what the batch reports

@@ -1,5 +1,5 @@
 -- Small batches that are admitted, so that the batch's claim is not empty, and what they come to.
-use Rattle.std.specs.Prelude.{◌≡◌, ℕ, zero, suc, true, false, List, [], ◌∷◌, length, slice_index_or, refl, Float}
+use Rattle.std.specs.Prelude.{◌≡◌, ℕ, zero, suc, true, false, List, [], ◌∷◌, length, get_or, refl, Float}
 use Rattle.std.proofs.Common.{arith}
 use Rattle.std.specs.Float.{nan, inf}
 use Rattle.std.specs.Float.Ieee.{lt, le, round, of_bits}
@@ -173,7 +173,7 @@ pub touched_ends_above :
 unfolding start_of grid_of state_after value round of_bits lt
 touched_ends_above = refl
 
-pub touched_price : slice_index_or (report touched).doubles 0 nan ≡ plus_zero
+pub touched_price : get_or (report touched).doubles 0 nan ≡ plus_zero
 unfolding report_of start_of grid_of value round of_bits
 touched_price = refl
 

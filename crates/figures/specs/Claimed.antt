@@ -1,5 +1,5 @@
 -- The batch's claim holds of a computed answer and table of each kind of batch. Assumes nothing.
-use Rattle.std.specs.Prelude.{◌≡◌, ℕ, zero, suc, ◌<◌, ◌≤◌, true, [], ◌∷◌, slice_index_or, refl}
+use Rattle.std.specs.Prelude.{◌≡◌, ℕ, zero, suc, ◌<◌, ◌≤◌, true, [], ◌∷◌, get_or, refl}
 use Rattle.std.proofs.Common.{arith}
 use Rattle.std.specs.Float.{nan}
 use Rattle.std.specs.Float.Ieee.{fits, le, round, of_bits}
@@ -54,7 +54,7 @@ unfolding start_of in_range value round of_bits le fits
 admitted a not_negative converted =
     record {
       few = omega arith;
-      weight = at_first (λ i. in_range (slice_index_or kernel.weights i nan) ≡ true) refl;
+      weight = at_first (λ i. in_range (get_or kernel.weights i nan) ≡ true) refl;
       params =
           record {
             a_not_negative = not_negative;
@@ -66,7 +66,7 @@ admitted a not_negative converted =
             spot = record { double = refl; small = refl };
             spot_above = refl;
             factor =
-                at_first (λ i. Converted (slice_index_or (start_of kernel (with_a a)).factors i nan))
+                at_first (λ i. Converted (get_or (start_of kernel (with_a a)).factors i nan))
                 (record { double = refl; small = refl });
           };
       start_read = refl;

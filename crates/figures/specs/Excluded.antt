@@ -1,7 +1,7 @@
 -- Rule 18.13: the wrong cores that the batch's claim excludes, as its fields name them
 -- (crates/batch/specs/Claim.antt). What each answers to a small admitted batch, or leaves in its
 -- table, does not meet the claim. Each proof looks at one field of the claim, the one that says so.
-use Rattle.std.specs.Prelude.{◌≡◌, ℕ, true, false, List, [], ◌∷◌, get_or, ◌≢◌, slice_index_or, refl, Float}
+use Rattle.std.specs.Prelude.{◌≡◌, ℕ, true, false, List, [], ◌∷◌, get_or, ◌≢◌, refl, Float}
 use Rattle.std.proofs.Common.{sym, ap, ◌∙◌, arith}
 use Rattle.std.specs.Float.{nan}
 use Rattle.std.specs.Float.Ieee.{lt, round, of_bits}
@@ -101,7 +101,7 @@ writes_no_observation answer claim =
 -- ---- a core with a fixed price, whatever it is: by `otherwise`
 pub fixed_price :
     (price : Float) (after after' : List Float) (answer answer' : BatchAnswer)
-    → slice_index_or answer.doubles 0 nan ≡ price → slice_index_or answer'.doubles 0 nan ≡ price
+    → get_or answer.doubles 0 nan ≡ price → get_or answer'.doubles 0 nan ≡ price
     → Claim nine after answer → Excluded level after' answer'
 unfolding value round of_bits lt
 fixed_price price after after' answer answer' fixed fixed' claim claim' =
@@ -112,7 +112,7 @@ fixed_price price after after' answer answer' fixed fixed' claim claim' =
 
 -- ---- a core that pays a put whose path touched its barrier inside a segment: by `otherwise`
 pub pays_after_a_touch :
-    (after : List Float) (answer : BatchAnswer) → (slice_index_or answer.doubles 0 nan ≢ plus_zero)
+    (after : List Float) (answer : BatchAnswer) → (get_or answer.doubles 0 nan ≢ plus_zero)
     → Excluded touched after answer
 pays_after_a_touch after answer pays claim =
     pays

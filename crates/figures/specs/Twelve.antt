@@ -1,7 +1,7 @@
 -- Rule 19.1: the figures P1 to P12, as the outer calls answer them, as one list with one theorem.
 -- They are proved here and nowhere else. Every double, given or expected, stands by its bits, so
 -- that no figure rests on the conversion that it checks.
-use Rattle.std.specs.Prelude.{◌≡◌, ℕ, false, List, [], ◌∷◌, ◌++◌, length, replicate, slice_index_or, refl, Float}
+use Rattle.std.specs.Prelude.{◌≡◌, ℕ, false, List, [], ◌∷◌, ◌++◌, length, replicate, get_or, refl, Float}
 use Rattle.std.specs.Float.{nan, binary64}
 use Rattle.std.specs.Float.Ieee.{of_bits, round}
 use Rattle.numeric.specs.Root.{root}
@@ -50,7 +50,7 @@ lent length = replicate length (bits 0)
 
 -- what a trace of one step has written last
 abbrev pub after : List Float → Float
-after table = slice_index_or table 1 nan
+after table = get_or table 1 nan
 
 -- a trace of one step: spot, factor, z and variance after it
 abbrev pub stepped : Float → Figure

@@ -94,10 +94,10 @@ module _ (n : ℕ) (mean : ℕ → Float) (pair : ℕ → ℕ → Float) (integr
   in_order =
       record {
         mean_at = λ i h. in_front i (omega arith) ∙ within means pairs i (length_singles mean n) h ∙ single_at mean n i h;
-        pair_at_lem = λ i j h l. at i j h l;
+        pair_place = λ i j h l. at i j h l;
         same_pair = λ i j. rw (min_comm j i, max_comm j i);
-        integral_at_lem = in_most (integral_at n) (omega arith) ∙ last (means ++ pairs) front_long;
-        constant_at_lem = last (means ++ pairs ++ integral ∷ []) most_long;
+        integral_place = in_most (integral_at n) (omega arith) ∙ last (means ++ pairs) front_long;
+        constant_place = last (means ++ pairs ++ integral ∷ []) most_long;
         long = length-append (means ++ pairs ++ integral ∷ []) (constant ∷ []) ∙ omega (arith, most_long);
         dimension_is = dimension_is n;
       }

@@ -8,9 +8,9 @@ use Rattle.generator_rows.specs.State.{pair_at, integral_at, constant_at, dimens
 pub record InOrder (n : ℕ) (mean : ℕ → Float) (pair : ℕ → ℕ → Float) (integral constant : Float)
     (row : List Float) : Type 0 where
   pub mean_at : (i : ℕ) → i < n → get_or row i nan ≡ mean i
-  pub pair_at_lem : (i j : ℕ) → i ≤ j → j < n → get_or row (pair_at n i j) nan ≡ pair i j
+  pub pair_place : (i j : ℕ) → i ≤ j → j < n → get_or row (pair_at n i j) nan ≡ pair i j
   pub same_pair : (i j : ℕ) → pair_at n j i ≡ pair_at n i j
-  pub integral_at_lem : get_or row (integral_at n) nan ≡ integral
-  pub constant_at_lem : get_or row (constant_at n) nan ≡ constant
+  pub integral_place : get_or row (integral_at n) nan ≡ integral
+  pub constant_place : get_or row (constant_at n) nan ≡ constant
   pub long : length row ≡ dimension n
   pub dimension_is : dimension n ≡ n + n * (n + 1) / 2 + 2
