@@ -154,7 +154,11 @@ impl Table {
         }
         fs::write(
             path,
-            format!("{before}{BEGIN}\n{table}\nOn {}.\n{END}{after}", machine()),
+            format!(
+                "{before}{BEGIN}\n{table}\nOn {}, with {}.\n{END}{after}",
+                machine(),
+                kit()
+            ),
         )
         .expect("the file");
         println!("{path} has the table");
@@ -175,6 +179,12 @@ fn written(nanoseconds: f64) -> String {
         text.push(digit);
     }
     text
+}
+
+/// The toolchain that proved and built the core, as the file `toolchain` names it.
+fn kit() -> String {
+    let line = fs::read_to_string("toolchain").expect("the file toolchain, at the root");
+    line.split_whitespace().next().unwrap_or("?").to_owned()
 }
 
 /// The processor's name.
