@@ -30,8 +30,8 @@ use Rattle.exponentiation.specs.Call.{exponential_call, exponential_table, Expon
 pub record Right (n input output : ℕ) : Type 0 where
   pub least : 1 ≤ n
   pub most : n ≤ 67
-  pub input-is : input ≡ n * n
-  pub output-is : output ≡ n * n
+  pub input_is : input ≡ n * n
+  pub output_is : output ≡ n * n
 
 pub right : (n input output : ℕ) → shape_right n input output ≡ true → Right n input output
 unfolding shape_right
@@ -43,8 +43,8 @@ right n input output e =
     record {
       least = leb-true 1 n p.0;
       most = leb-true n 67 q.0;
-      input-is = eqb-true input (n * n) r.0;
-      output-is = eqb-true output (n * n) r.1;
+      input_is = eqb-true input (n * n) r.0;
+      output_is = eqb-true output (n * n) r.1;
     }
 
 -- ---- the answer, and what is written
@@ -121,27 +121,27 @@ module _ (i : MatrixInputs) where
         sizes-refused (Plain 16) (omega arith) (rw (e, ne_eqb (length i.workspace) room h))
 
     module _ (long : length i.workspace ≡ room) (after-work : List Float) where
-      sizes-passed : first_no sizes ≡ Outcome.Passed
+      sizes_passed : first_no sizes ≡ Outcome.Passed
       unfolding size_questions first_no
-      sizes-passed = rw (e, eq-eqb (length i.workspace) room long)
+      sizes_passed = rw (e, eq-eqb (length i.workspace) room long)
 
       free : KeptUnlessPassed (first_no sizes) i.workspace after-work
-      free = kept_free (first_no sizes) i.workspace after-work sizes-passed
+      free = kept_free (first_no sizes) i.workspace after-work sizes_passed
 
-      at-17 : (b : Bool) → is_finite ≡ b → first_no (exponential_questions i) ≡ first_no (last b)
+      at_17 : (b : Bool) → is_finite ≡ b → first_no (exponential_questions i) ≡ first_no (last b)
       unfolding exponential_questions
-      at-17 b q = then sizes (last is_finite) sizes-passed ∙ ap (λ (x : Bool). first_no (last x)) q
+      at_17 b q = then sizes (last is_finite) sizes_passed ∙ ap (λ (x : Bool). first_no (last x)) q
 
       pub not_finite :
           NotFinite ≡ exponentiated i.dimension i.input
           → ExponentialAnswered i (refused (Plain 17)) i.output after-work
       unfolding exponentiated first_no
       not_finite q =
-          refused-by (Plain 17) after-work (omega arith) (at-17 false (is_false is_finite _ q)) free
+          refused-by (Plain 17) after-work (omega arith) (at_17 false (is_false is_finite _ q)) free
 
       all_passed : is_finite ≡ true → first_no (exponential_questions i) ≡ Outcome.Passed
       unfolding first_no
-      all_passed q = at-17 true q
+      all_passed q = at_17 true q
 
       pub done :
           (s : ℕ) (after : List Float) → Done s ≡ exponentiated i.dimension i.input

@@ -34,16 +34,16 @@ factors_fit points n p q = le_trans (mul-le-mul_left points q) (mul-le-mul_right
 module _ (i : TraceInputs) (lent : Tables) where
   -- what was answered to a refusal, with the tables as lent
   module _ (x : Refusal) (r : Tracing) (e : r ≡ refused x) where
-    refused-first : first_no (trace_questions i lent) ≡ Refused x → TraceAnswered i lent lent r
+    refused_first : first_no (trace_questions i lent) ≡ Refused x → TraceAnswered i lent lent r
     unfolding trace_call trace_tables
-    refused-first f = record { answer = rw f e; tables = rw f refl }
+    refused_first f = record { answer = rw f e; tables = rw f refl }
 
     pub model_refused :
         (door : ModelAdmission) → ModelPrepared i.given door → door.outcome ≡ Refused x
         → TraceAnswered i lent lent r
     unfolding trace_questions
     model_refused door prepared failed =
-        refused-first (stops (model_questions i.given) _ x (sym prepared.outcome ∙ failed))
+        refused_first (stops (model_questions i.given) _ x (sym prepared.outcome ∙ failed))
 
   module _
       (door : ModelAdmission)
@@ -53,8 +53,8 @@ module _ (i : TraceInputs) (lent : Tables) where
       abbrev s : Simulation
       s = door.simulation
 
-      is-given : simulation_in_use s ≡ simulation_of i.given
-      is-given = (prepared.ready passed).in_use
+      is_given : simulation_in_use s ≡ simulation_of i.given
+      is_given = (prepared.ready passed).in_use
 
       abbrev right : Bool
       right = lengths_right (s.grid.total + 1) s.kernel.n (lengths lent)
@@ -70,28 +70,28 @@ module _ (i : TraceInputs) (lent : Tables) where
       unfolding trace_questions
       left =
           then (model_questions i.given) _ (sym prepared.outcome ∙ passed)
-          ∙ ap (λ (m : Simulation). first_no (last m)) (sym is-given)
+          ∙ ap (λ (m : Simulation). first_no (last m)) (sym is_given)
 
       pub draws-refused :
           (r : Tracing) → r ≡ refused (Plain 20) → (length i.draws ≡ s.grid.total → ⊥)
           → TraceAnswered i lent lent r
       unfolding first_no
-      draws-refused r e other = refused-first (Plain 20) r e (left ∙ rw (ne_eqb _ _ other))
+      draws-refused r e other = refused_first (Plain 20) r e (left ∙ rw (ne_eqb _ _ other))
 
       module _ (all : length i.draws ≡ s.grid.total) where
         pub tables-refused :
             (r : Tracing) → r ≡ refused (Plain 21) → right ≡ false → TraceAnswered i lent lent r
         unfolding first_no
         tables-refused r e other =
-            refused-first (Plain 21) r e (left ∙ rw (eq-eqb _ _ all, other))
+            refused_first (Plain 21) r e (left ∙ rw (eq-eqb _ _ all, other))
 
-        asked-all : right ≡ true → first_no (trace_questions i lent) ≡ Passed
+        asked_all : right ≡ true → first_no (trace_questions i lent) ≡ Passed
         unfolding first_no
-        asked-all fit = left ∙ rw (eq-eqb _ _ all, fit)
+        asked_all fit = left ∙ rw (eq-eqb _ _ all, fit)
 
         -- the walk of the simulation in use is that of the given one
         walk_is : walk_in s i.draws ≡ walk_of i
-        walk_is = ap (λ (m : Simulation). trace_walk m i.draws) is-given
+        walk_is = ap (λ (m : Simulation). trace_walk m i.draws) is_given
 
         pub walked :
             right ≡ true → (a : Traced) (after : Tables) (r : Tracing)
@@ -100,6 +100,6 @@ module _ (i : TraceInputs) (lent : Tables) where
         unfolding trace_call trace_tables
         walked fit a after r e f g =
             record {
-              answer = rw (asked-all fit) (g ∙ ap answered (e ∙ ap trace_answer walk_is));
-              tables = rw (asked-all fit) (f ∙ ap (λ (w : Walk). tables_after w lent) walk_is);
+              answer = rw (asked_all fit) (g ∙ ap answered (e ∙ ap trace_answer walk_is));
+              tables = rw (asked_all fit) (f ∙ ap (λ (w : Walk). tables_after w lent) walk_is);
             }

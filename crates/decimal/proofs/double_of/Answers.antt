@@ -11,8 +11,8 @@ use Rattle.decimal.proofs.double_of.Goals as goal
 
 -- past both tests
 module _ (c : Else-d-gt-LARGEST_SCALE) where
-  not-zero : is_zero c.args.d ≡ false
-  not-zero = sym c.is_zero.ensures ∙ c.if-is_zero.false
+  not_zero : is_zero c.args.d ≡ false
+  not_zero = sym c.is_zero.ensures ∙ c.if-is_zero.false
 
   short : c.args.d.scale ≤ 28
   short = c.if-d-gt-LARGEST_SCALE.false
@@ -30,9 +30,9 @@ returns-then-is_zero c =
 
 pub nonzero_to_f64-requires : goal.nonzero_to_f64-requires
 nonzero_to_f64-requires c =
-    (nonzero c.args.d (not-zero c.before), short c.before)
+    (nonzero c.args.d (not_zero c.before), short c.before)
 
 pub returns : goal.returns
 returns c =
     c.nonzero_to_f64.ensures
-    ∙ sym (nearest_value c.args.d (not-zero c.before.before) (short c.before.before))
+    ∙ sym (nearest_value c.args.d (not_zero c.before.before) (short c.before.before))

@@ -9,19 +9,19 @@ use borrow.Author.Tests.{ne_eqb}
 use Rattle.decimal.specs.Decimal.{is_zero}
 use Rattle.decimal.proofs.is_zero.Goals as goal
 
-low-alone : (high low : ℕ) → high ≡ 0 → low ≡ high * 2 ^ 64 + low
-low-alone high low e = omega arith
+low_alone : (high low : ℕ) → high ≡ 0 → low ≡ high * 2 ^ 64 + low
+low_alone high low e = omega arith
 
-not-zero : (high low : ℕ) → (high ≡ 0 → ⊥) → 0 < high * 2 ^ 64 + low
-not-zero high low n = omega (arith, pos_of_ne-zero n)
+not_zero : (high low : ℕ) → (high ≡ 0 → ⊥) → 0 < high * 2 ^ 64 + low
+not_zero high low n = omega (arith, pos_of_ne-zero n)
 
 pub returns-then-d-eq0 : goal.returns-then-d-eq0
 unfolding is_zero
 returns-then-d-eq0 c =
-    let d = c.args.d in ap (λ (x : ℕ). eqb x 0) (low-alone d.high d.low c.if-d-eq0.true)
+    let d = c.args.d in ap (λ (x : ℕ). eqb x 0) (low_alone d.high d.low c.if-d-eq0.true)
 
 pub returns-else-d-eq0 : goal.returns-else-d-eq0
 unfolding is_zero
 returns-else-d-eq0 c =
     let d = c.args.d in
-    ne_eqb d.high 0 c.if-d-eq0.false ∙ sym (ne_eqb (d.high * 2 ^ 64 + d.low) 0 (ne_of_gt (not-zero d.high d.low c.if-d-eq0.false)))
+    ne_eqb d.high 0 c.if-d-eq0.false ∙ sym (ne_eqb (d.high * 2 ^ 64 + d.low) 0 (ne_of_gt (not_zero d.high d.low c.if-d-eq0.false)))

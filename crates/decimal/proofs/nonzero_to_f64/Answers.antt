@@ -12,8 +12,8 @@ use borrow.Author.Rules.{rules}
 use Rattle.decimal.proofs.nonzero_to_f64.Goals.{After-align-top, After-divide_by_fives-quotient}
 use Rattle.decimal.proofs.nonzero_to_f64.Goals as goal
 
-quotient-pos : (c : After-divide_by_fives-quotient) → 0 < wide c.divide_by_fives-quotient.result.hi c.divide_by_fives-quotient.result.lo
-quotient-pos c =
+quotient_pos : (c : After-divide_by_fives-quotient) → 0 < wide c.divide_by_fives-quotient.result.hi c.divide_by_fives-quotient.result.lo
+quotient_pos c =
     let number = c.align-number.result in
     subst (λ (z : ℕ). 0 < z) (sym c.divide_by_fives-quotient.ensures.whole)
     (le_trans (lit≤ tt) (quotient_from (wide number.hi number.lo) c.args.scale c.requires.1 (from_top number.hi number.lo c.align-number.ensures.top)))
@@ -24,12 +24,12 @@ at_most_one f s e = omega arith
 words : (c : After-align-top) → (c.align-top.result.hi < 2 ^ 64) × (c.align-top.result.lo < 2 ^ 64)
 words c = (search rules, search rules)
 
-exponent-below : (a b k : ℕ) → 1149 - a - b - k < 2045
-exponent-below a b k = omega arith
+exponent_below : (a b k : ℕ) → 1149 - a - b - k < 2045
+exponent_below a b k = omega arith
 
 pub align-top-requires : goal.align-top-requires
 align-top-requires c =
-    quotient-pos c
+    quotient_pos c
 
 pub rounded-significand-requires : goal.rounded-significand-requires
 rounded-significand-requires c =
@@ -42,7 +42,7 @@ assembled-requires c =
     let top = at_after.before in
     let s = subst (λ (z : ℕ). (2 ^ 52 ≤ z) × (z ≤ 2 ^ 53)) (sym r.rounded-significand.ensures)
     (significand top.align-top.result.hi at_after.one_if_any.result (at_most_one at_after.one_if_any.result _ at_after.one_if_any.ensures) top.align-top.ensures.top (words top).0) in
-    (s.0, s.1, exponent-below _ _ _)
+    (s.0, s.1, exponent_below _ _ _)
 
 pub returns : goal.returns
 returns c =

@@ -33,13 +33,13 @@ within_at {b} {n} {path} {segment} {at} laid h taken =
     reached_open b.simulation.grid laid segment at h.reached taken
 
 -- there are 64 segments at most
-segment-few : {b : Batch} {n path segment at : ℕ} {s : Lanes} {factors rows : List Float} → Laid b.simulation.grid → Beside b n path segment at s factors rows → at < b.simulation.grid.total → segment < 64
-segment-few laid h taken =
+segment_few : {b : Batch} {n path segment at : ℕ} {s : Lanes} {factors rows : List Float} → Laid b.simulation.grid → Beside b n path segment at s factors rows → at < b.simulation.grid.total → segment < 64
+segment_few laid h taken =
     omega (arith, within_at laid h taken, laid.few)
 
 -- the last step of the segment
-last-now : (sched : TimeGrid) (segment : ℕ) → segment < sched.count → get_or sched.last segment 0 ≡ last_step (grid_in_use sched) (suc segment)
-last-now sched segment within =
+last_now : (sched : TimeGrid) (segment : ℕ) → segment < sched.count → get_or sched.last segment 0 ≡ last_step (grid_in_use sched) (suc segment)
+last_now sched segment within =
     sym (get_or-take sched.count sched.last segment 0 within)
 
 -- ---- before the loop
@@ -90,11 +90,11 @@ overflow_add-at c =
 
 pub offset_bounds-sched-segment : goal.offset_bounds-sched-segment
 offset_bounds-sched-segment c =
-    omega (arith, segment-few (laid_in_use c.args.batch.simulation.grid c.requires.laid) (c.loop-at.invariant.0 0) c.loop-at-test.true)
+    omega (arith, segment_few (laid_in_use c.args.batch.simulation.grid c.requires.laid) (c.loop-at.invariant.0 0) c.loop-at-test.true)
 
 pub bounds-sched-segment : goal.bounds-sched-segment
 bounds-sched-segment c =
-    omega (arith, segment-few (laid_in_use c.args.batch.simulation.grid c.requires.laid) (c.loop-at.invariant.0 0) c.loop-at-test.true)
+    omega (arith, segment_few (laid_in_use c.args.batch.simulation.grid c.requires.laid) (c.loop-at.invariant.0 0) c.loop-at-test.true)
 
 -- the factors are as many as before
 pub observe-values-requires : goal.observe-values-requires
@@ -107,7 +107,7 @@ write_column-requires c =
 
 pub overflow_add-segment : goal.overflow_add-segment
 overflow_add-segment c =
-    omega (arith, segment-few (laid_in_use c.args.batch.simulation.grid c.requires.laid) (c.loop-at.invariant.0 0) c.loop-at-test.true)
+    omega (arith, segment_few (laid_in_use c.args.batch.simulation.grid c.requires.laid) (c.loop-at.invariant.0 0) c.loop-at-test.true)
 
 pub rates_at-rates-requires-then-at-sched : goal.rates_at-rates-requires-then-at-sched
 rates_at-rates-requires-then-at-sched c =
@@ -129,7 +129,7 @@ loop-at-preserved-then-at-sched c =
           step_in_use c.args.batch.simulation.grid c.requires.laid _ _ (c.loop-at.invariant.0 0).reached within c.args.batch.simulation.kernel c.loop-at.rates c.loop-at.invariant.1 _ _ _ _ _ _ (c.draws_at-g.ensures l h)
           (c.try_step-tried.ensures.lane (not-false _ c.if-not-tried.false) l h))
           (c.try_step-tried.ensures.long ∙ (c.loop-at.invariant.0 0).long)
-          (c.if-at-sched.true ∙ last-now c.args.batch.simulation.grid c.loop-at.segment within) _ (c.write_column.ensures.long ∙ (c.loop-at.invariant.0 0).wide)
+          (c.if-at-sched.true ∙ last_now c.args.batch.simulation.grid c.loop-at.segment within) _ (c.write_column.ensures.long ∙ (c.loop-at.invariant.0 0).wide)
           (λ l m. c.write_column.ensures.new l m ∙ c.observe-values.ensures c.args.batch.simulation.kernel.n l c.requires.form m)
           c.write_column.ensures.kept,
       c.rates_at-rates-then-at-sched.ensures,
@@ -148,7 +148,7 @@ loop-at-preserved c =
           (λ l h.
           step_in_use c.args.batch.simulation.grid c.requires.laid _ _ (c.loop-at.invariant.0 0).reached within c.args.batch.simulation.kernel c.loop-at.rates c.loop-at.invariant.1 _ _ _ _ _ _ (c.draws_at-g.ensures l h)
           (c.try_step-tried.ensures.lane (not-false _ c.if-not-tried.false) l h))
-          (c.try_step-tried.ensures.long ∙ (c.loop-at.invariant.0 0).long) (λ e. c.if-at-sched.false (e ∙ sym (last-now c.args.batch.simulation.grid c.loop-at.segment within))),
+          (c.try_step-tried.ensures.long ∙ (c.loop-at.invariant.0 0).long) (λ e. c.if-at-sched.false (e ∙ sym (last_now c.args.batch.simulation.grid c.loop-at.segment within))),
       c.loop-at.invariant.1,
     )
 

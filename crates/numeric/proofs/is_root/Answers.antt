@@ -9,8 +9,8 @@ use Rattle.numeric.proofs.Numbers.{near_of_test}
 use Rattle.numeric.proofs.Patterns.{bits_of_number}
 use Rattle.numeric.proofs.is_root.Goals as goal
 
-has-digits : (b : ℕ) → Significand ((b % 2 ^ 52 + 2 ^ 52) * (1 + (b / 2 ^ 52 + 1073) % 2))
-has-digits b = significand (b % 2 ^ 52 + 2 ^ 52) (b / 2 ^ 52 + 1073) (record { least = omega arith; most = omega arith })
+has_digits : (b : ℕ) → Significand ((b % 2 ^ 52 + 2 ^ 52) * (1 + (b / 2 ^ 52 + 1073) % 2))
+has_digits b = significand (b % 2 ^ 52 + 2 ^ 52) (b / 2 ^ 52 + 1073) (record { least = omega arith; most = omega arith })
 
 pub returns-then-field-lt1 : goal.returns-then-field-lt1
 returns-then-field-lt1 c =
@@ -22,7 +22,7 @@ returns-then-field-gt2046 c =
 
 pub overflow_mul-m : goal.overflow_mul-m
 overflow_mul-m c =
-    omega (arith, has-digits c.bits_of-bits.result)
+    omega (arith, has_digits c.bits_of-bits.result)
 
 pub returns-then-guess-e : goal.returns-then-guess-e
 returns-then-guess-e c =
@@ -30,7 +30,7 @@ returns-then-guess-e c =
 
 pub is_nearest-requires : goal.is_nearest-requires
 is_nearest-requires c =
-    record { significand = has-digits c.bits_of-bits.result; digits = record { least = omega arith; most = omega arith } }
+    record { significand = has_digits c.bits_of-bits.result; digits = record { least = omega arith; most = omega arith } }
 
 pub returns : goal.returns
 returns c =
@@ -47,4 +47,4 @@ returns c =
     bits_of_number start.args.g (omega (arith, low, field, of-g.ensures)) ∙ sym of-g.ensures in
     is_root of-x.result start.args.x start.args.g (subst T (sym start.well_formed.0.1) tt)
     (subst T (sym start.well_formed.1.0.1) tt) bits (omega (arith, low)) (omega (arith, high)) (rw guess field)
-    (rw guess (near_of_test _ _ (has-digits of-x.result) (sym c.is_nearest.ensures ∙ e)))
+    (rw guess (near_of_test _ _ (has_digits of-x.result) (sym c.is_nearest.ensures ∙ e)))

@@ -11,13 +11,13 @@ use Rattle.numeric.proofs.Patterns.{same_no_nan, at_most_inf}
 use Rattle.numeric.proofs.Values.{sign_clear, field_top}
 use Rattle.numeric.proofs.sqrt.Goals as goal
 
-root-nan : root binary64 nan ≡ nan
+root_nan : root binary64 nan ≡ nan
 unfolding root
-root-nan = refl
+root_nan = refl
 
-root-inf : root binary64 (inf false) ≡ inf false
+root_inf : root binary64 (inf false) ≡ inf false
 unfolding root
-root-inf = refl
+root_inf = refl
 
 -- the law of the root comes with the equation
 abbrev Answered : Float → Float → Type 0
@@ -35,12 +35,12 @@ by_pattern x r F e = answered x r F (e ∙ ap (root binary64) (of_bits-to_bits b
 infinite : (x : Float) → T (fits binary64 x) → to_bits binary64 x ≡ 2047 * 2 ^ 52 → x ≡ root binary64 x
 infinite x F e =
     let is : x ≡ inf false = sym (of_bits-to_bits binary64 x F) ∙ ap (of_bits binary64) e ∙ sign_clear (2047 * 2 ^ 52) (lit< tt) ∙ field_top false in
-    is ∙ sym (ap (root binary64) is ∙ root-inf)
+    is ∙ sym (ap (root binary64) is ∙ root_inf)
 
 pub returns-then-x : goal.returns-then-x
 returns-then-x c =
     let is : c.args.x ≡ nan = differs_from_itself c.args.x (T_from_true _ c.if-x.true) in
-    answered c.args.x c.args.x (T_from_true _ c.well_formed.0.1) (is ∙ sym (ap (root binary64) is ∙ root-nan))
+    answered c.args.x c.args.x (T_from_true _ c.well_formed.0.1) (is ∙ sym (ap (root binary64) is ∙ root_nan))
 
 pub float_to_bits-bits : goal.float_to_bits-bits
 float_to_bits-bits c = same_no_nan _ c.if-x.false

@@ -16,9 +16,9 @@ abbrev refusal : Float → Conversion
 refusal v = record { number = 1; place = no_place; value = v }
 
 -- a Decimal that question 1 turns away has no nearest double
-refused-has-none : (d : Decimal) (v : Float) → scale_fits d ≡ false → ConvertsToNearest d v
+refused_has_none : (d : Decimal) (v : Float) → scale_fits d ≡ false → ConvertsToNearest d v
 unfolding ConvertsToNearest
-refused-has-none d v refused z fits = absurd (true≢false (sym fits ∙ refused))
+refused_has_none d v refused z fits = absurd (true≢false (sym fits ∙ refused))
 
 pub returns-in-Value : goal.returns-in-Value
 returns-in-Value c =
@@ -31,4 +31,4 @@ returns-in-ScaleTooLarge c =
     let call = c.decimal_to_f64 in
     let is = c.in-ScaleTooLarge.is in
     let refused = subst (AnswersNearest _) is call.ensures.nearest in
-    record { answer = ap refusal zero_is ∙ ap conversion (sym is ∙ call.ensures.answer); nearest = refused-has-none _ _ refused }
+    record { answer = ap refusal zero_is ∙ ap conversion (sym is ∙ call.ensures.answer); nearest = refused_has_none _ _ refused }

@@ -8,8 +8,8 @@ use Rattle.schedule.specs.Questions.{questions_of}
 use Rattle.schedule.proofs.segment_questions.Goals.{Joined-is_positive, then-is_positive, else-is_positive}
 use Rattle.schedule.proofs.segment_questions.Goals as goal
 
-runs-is : (c : Joined-is_positive) → c.if-is_positive.runs ≡ (is_positive c.args.s.dt && ltb 0 c.args.s.steps)
-runs-is c =
+runs_is : (c : Joined-is_positive) → c.if-is_positive.runs ≡ (is_positive c.args.s.dt && ltb 0 c.args.s.steps)
+runs_is c =
     let positive = c.is_positive.ensures in
     elim c.if-is_positive.branch [
       | then-is_positive w ↦ w.runs-is ∙ rw (sym positive ∙ w.if-is_positive.true)
@@ -19,4 +19,4 @@ runs-is c =
 pub returns : goal.returns
 returns c =
     c.ask.ensures
-    ∙ rw (c.scale_fits.ensures, c.ask-asked-2.ensures, c.ask-asked.ensures, runs-is c.before.before.before.before.before) (in_turn (questions_of c.args.s c.args.segment c.args.total))
+    ∙ rw (c.scale_fits.ensures, c.ask-asked-2.ensures, c.ask-asked.ensures, runs_is c.before.before.before.before.before) (in_turn (questions_of c.args.s c.args.segment c.args.total))

@@ -13,14 +13,14 @@ use Rattle.walks.proofs.draw_at.Goals as goal
 
 -- the draw, by the kind of the batch and the path's place in its pair
 module _ (kind : Bool) (draws : List Float) (total path at : ℕ) {g : Float} where
-  plain-draw : kind ≡ false → g ≡ get_or draws (path * total + at) nan → g ≡ draw_of kind draws total (suc path) (suc at)
-  plain-draw is e = e ∙ sym (ap (λ (m : Bool). draw_of m draws total (suc path) (suc at)) is)
+  plain_draw : kind ≡ false → g ≡ get_or draws (path * total + at) nan → g ≡ draw_of kind draws total (suc path) (suc at)
+  plain_draw is e = e ∙ sym (ap (λ (m : Bool). draw_of m draws total (suc path) (suc at)) is)
 
-  first-draw : kind ≡ true → (suc path % 2 ≡ 0 → ⊥) → g ≡ get_or draws (path / 2 * total + at) nan → g ≡ draw_of kind draws total (suc path) (suc at)
-  first-draw is odd e = e ∙ sym (ap (λ (m : Bool). draw_of m draws total (suc path) (suc at)) is ∙ rw (ne_eqb _ _ odd))
+  first_draw : kind ≡ true → (suc path % 2 ≡ 0 → ⊥) → g ≡ get_or draws (path / 2 * total + at) nan → g ≡ draw_of kind draws total (suc path) (suc at)
+  first_draw is odd e = e ∙ sym (ap (λ (m : Bool). draw_of m draws total (suc path) (suc at)) is ∙ rw (ne_eqb _ _ odd))
 
-  second-draw : kind ≡ true → suc path % 2 ≡ 0 → g ≡ get_or draws (path / 2 * total + at) nan → neg g ≡ draw_of kind draws total (suc path) (suc at)
-  second-draw is even e = ap neg e ∙ sym (ap (λ (m : Bool). draw_of m draws total (suc path) (suc at)) is ∙ rw (eq-eqb _ _ even))
+  second_draw : kind ≡ true → suc path % 2 ≡ 0 → g ≡ get_or draws (path / 2 * total + at) nan → neg g ≡ draw_of kind draws total (suc path) (suc at)
+  second_draw is even e = ap neg e ∙ sym (ap (λ (m : Bool). draw_of m draws total (suc path) (suc at)) is ∙ rw (eq-eqb _ _ even))
 
 -- the path's draws are among those lent
 mirrored : (c : Then-mirrored) → c.args.path / 2 * c.args.total + c.args.total ≤ length c.args.draws.now
@@ -41,11 +41,11 @@ path_draw-g-requires c =
 
 pub returns-then-path-eq1 : goal.returns-then-path-eq1
 returns-then-path-eq1 c =
-    let a = c.args in second-draw a.mirrored a.draws.now a.total a.path a.at c.if-mirrored.true (omega (arith, c.if-path-eq1.true)) c.path_draw-g.ensures
+    let a = c.args in second_draw a.mirrored a.draws.now a.total a.path a.at c.if-mirrored.true (omega (arith, c.if-path-eq1.true)) c.path_draw-g.ensures
 
 pub returns-then-mirrored : goal.returns-then-mirrored
 returns-then-mirrored c =
-    let a = c.args in first-draw a.mirrored a.draws.now a.total a.path a.at c.if-mirrored.true (λ e. omega (arith, c.if-path-eq1.false)) c.path_draw-g.ensures
+    let a = c.args in first_draw a.mirrored a.draws.now a.total a.path a.at c.if-mirrored.true (λ e. omega (arith, c.if-path-eq1.false)) c.path_draw-g.ensures
 
 pub overflow_mul-path-2 : goal.overflow_mul-path-2
 overflow_mul-path-2 c =
@@ -57,4 +57,4 @@ path_draw-requires c =
 
 pub returns : goal.returns
 returns c =
-    let a = c.args in plain-draw a.mirrored a.draws.now a.total a.path a.at c.if-mirrored.false c.path_draw.ensures
+    let a = c.args in plain_draw a.mirrored a.draws.now a.total a.path a.at c.if-mirrored.false c.path_draw.ensures

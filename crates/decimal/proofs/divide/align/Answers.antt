@@ -15,11 +15,11 @@ use Rattle.decimal.proofs.divide.align.Goals as goal
 abbrev Highest : ℕ → Type 0
 Highest w = (count_leading_zeros 64 w < 64) × (2 ^ 63 ≤ w * 2 ^ count_leading_zeros 64 w) × (w * 2 ^ count_leading_zeros 64 w < 2 ^ 64)
 
-low-only : (hi lo : ℕ) → hi ≡ 0 → 0 < hi * 2 ^ 64 + lo → 0 < lo
-low-only hi lo e p = omega arith
+low_only : (hi lo : ℕ) → hi ≡ 0 → 0 < hi * 2 ^ 64 + lo → 0 < lo
+low_only hi lo e p = omega arith
 
 at_low : (c : Then-hi-eq0) → Highest c.args.lo
-at_low c = highest c.args.lo (low-only c.args.hi c.args.lo c.if-hi-eq0.true c.requires) c.ranges.lo.fits
+at_low c = highest c.args.lo (low_only c.args.hi c.args.lo c.if-hi-eq0.true c.requires) c.ranges.lo.fits
 
 at_high : (c : Else-hi-eq0) → Highest c.args.hi
 at_high c = highest c.args.hi (pos_of_ne-zero c.if-hi-eq0.false) c.ranges.hi.fits
@@ -39,9 +39,9 @@ from_low hi lo e h =
       short = omega arith;
     }
 
-from-both : (hi lo : ℕ) → lo < 2 ^ 64 → Highest hi
+from_both : (hi lo : ℕ) → lo < 2 ^ 64 → Highest hi
     → IsAligned (wide hi lo) (record { hi = hi * 2 ^ count_leading_zeros 64 hi % 2 ^ 64 + lo / 2 ^ 1 / 2 ^ (63 - count_leading_zeros 64 hi); lo = lo * 2 ^ count_leading_zeros 64 hi % 2 ^ 64; shift = count_leading_zeros 64 hi })
-from-both hi lo w h =
+from_both hi lo w h =
     let z : ℕ = count_leading_zeros 64 hi in
     let m : hi * 2 ^ z % 2 ^ 64 ≡ hi * 2 ^ z = mod-eq_of_lt h.2 in
     record {
@@ -98,4 +98,4 @@ overflow_shl-result-3 c =
 
 pub returns : goal.returns
 returns c =
-    from-both c.args.hi c.args.lo c.ranges.lo.fits (at_high c)
+    from_both c.args.hi c.args.lo c.ranges.lo.fits (at_high c)

@@ -17,16 +17,16 @@ magnitude c = c.args.exponent * 2 ^ 52 + c.args.significand
 read_at : (c : Start) (s : Bool) → c.args.negative ≡ s → of_bits binary64 (signed s (magnitude c)) ≡ units binary64 c.args.negative c.args.significand c.args.exponent
 read_at c s e = read s c.args.significand c.args.exponent c.requires.0 c.requires.1 c.requires.2 ∙ ap (λ (b : Bool). units binary64 b c.args.significand c.args.exponent) (sym e)
 
-no-nan-at : (c : Start) (s : Bool) → T (not (nan_bits binary64 (signed s (magnitude c))))
-no-nan-at c s = no_nan s c.args.significand c.args.exponent c.requires.0 c.requires.1 c.requires.2
+no_nan_at : (c : Start) (s : Bool) → T (not (nan_bits binary64 (signed s (magnitude c))))
+no_nan_at c s = no_nan s c.args.significand c.args.exponent c.requires.0 c.requires.1 c.requires.2
 
 pub float_from_bits-result : goal.float_from_bits-result
 float_from_bits-result c =
-    no-nan-at c.before true
+    no_nan_at c.before true
 
 pub float_from_bits-result-else-negative : goal.float_from_bits-result-else-negative
 float_from_bits-result-else-negative c =
-    subst (λ (n : ℕ). T (not (nan_bits binary64 n))) (zero-add (magnitude c.before)) (no-nan-at c.before false)
+    subst (λ (n : ℕ). T (not (nan_bits binary64 n))) (zero-add (magnitude c.before)) (no_nan_at c.before false)
 
 pub returns-then-negative : goal.returns-then-negative
 returns-then-negative c =

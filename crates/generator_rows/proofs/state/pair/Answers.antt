@@ -9,8 +9,8 @@ use Rattle.generator_rows.proofs.state.pair.Goals as goal
 few : (c : After-pairs_before) → c.pairs_before.result ≤ 105
 few c = rw c.pairs_before.ensures (pairs_few c.requires.0 (omega arith))
 
-few-2 : (c : After-pairs_before-else-i-j) → c.pairs_before-else-i-j.result ≤ 105
-few-2 c = rw c.pairs_before-else-i-j.ensures (pairs_few c.requires.0 (omega arith))
+few_2 : (c : After-pairs_before-else-i-j) → c.pairs_before-else-i-j.result ≤ 105
+few_2 c = rw c.pairs_before-else-i-j.ensures (pairs_few c.requires.0 (omega arith))
 
 pub overflow_add-result : goal.overflow_add-result
 overflow_add-result c =
@@ -22,11 +22,11 @@ overflow_add-result-then-i-j c =
 
 pub overflow_add-result-else-i-j : goal.overflow_add-result-else-i-j
 overflow_add-result-else-i-j c =
-    omega (arith, few-2 c)
+    omega (arith, few_2 c)
 
 pub overflow_add-result-else-i-j-2 : goal.overflow_add-result-else-i-j-2
 overflow_add-result-else-i-j-2 c =
-    omega (arith, few-2 c)
+    omega (arith, few_2 c)
 
 pub returns-then-i-j : goal.returns-then-i-j
 returns-then-i-j c =

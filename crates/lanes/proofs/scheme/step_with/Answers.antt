@@ -12,11 +12,11 @@ use Rattle.lanes.proofs.Moving.{diffusion_of, forcing_of, lanes_stepped}
 use Rattle.lanes.proofs.scheme.step_with.Goals.{Start}
 use Rattle.lanes.proofs.scheme.step_with.Goals as goal
 
-divisors-long : (c : Start) → length c.args.rates.divisors ≡ 10
-divisors-long c = search rules
+divisors_long : (c : Start) → length c.args.rates.divisors ≡ 10
+divisors_long c = search rules
 
-weights-long : (c : Start) → length c.args.k.weights ≡ 10
-weights-long c = search rules
+weights_long : (c : Start) → length c.args.k.weights ≡ 10
+weights_long c = search rules
 
 pub loop-l-init : goal.loop-l-init
 loop-l-init c =
@@ -36,7 +36,7 @@ loop-l-preserved c =
 pub move_factors-z-requires : goal.move_factors-z-requires
 move_factors-z-requires c =
     let start = c.before.before.before.before.before.before.before.before.before.before.before in
-    (start.requires.n_bound.0, divisors-long start, weights-long start, start.requires.n_bound.1)
+    (start.requires.n_bound.0, divisors_long start, weights_long start, start.requires.n_bound.1)
 
 pub shape_of-factors : goal.shape_of-factors
 shape_of-factors c =

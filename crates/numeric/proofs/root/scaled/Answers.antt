@@ -37,8 +37,8 @@ module _ (c : goal.Start) where
   held = subst T (sym c.well_formed.1.1.0.1) tt
 
   -- a guess with the root's digits and its exponent's field
-  is-guess : (s : ℕ) → Nearest m s → to_bits binary64 c.args.guess ≡ k * 2 ^ 52 + s → c.args.guess ≡ units binary64 false s k
-  is-guess s n h = sym (of_bits-to_bits binary64 c.args.guess held) ∙ ap (of_bits binary64) h ∙ sym (units_pattern s k n.digits.least n.digits.most (omega arith))
+  is_guess : (s : ℕ) → Nearest m s → to_bits binary64 c.args.guess ≡ k * 2 ^ 52 + s → c.args.guess ≡ units binary64 false s k
+  is_guess s n h = sym (of_bits-to_bits binary64 c.args.guess held) ∙ ap (of_bits binary64) h ∙ sym (units_pattern s k n.digits.least n.digits.most (omega arith))
 
 -- the guess's digits passed the test
 tested : (c : goal.Start) (t : Bool)
@@ -73,7 +73,7 @@ returns-then-bits-k c =
     let s = b % 2 ^ 52 + 2 ^ 52 in
     let n = tested start _ c.is_nearest.ensures c.if-is_nearest.true in
     let field : b / 2 ^ 52 ≡ k start + 1 = c.if-bits-k.true in
-    is-guess start s n (omega arith) ∙ is_root start s n
+    is_guess start s n (omega arith) ∙ is_root start s n
 
 pub returns-then-is_nearest : goal.returns-then-is_nearest
 returns-then-is_nearest c =
