@@ -79,13 +79,13 @@ module _ (i : MatrixInputs) where
   abbrev is_finite : Bool
   is_finite = exponential_finite i.dimension i.input
 
-  refused-by :
+  refused_by :
       (r : Refusal) (after-work : List Float) → 0 < number_of r
       → first_no (exponential_questions i) ≡ Outcome.Refused r
       → KeptUnlessPassed (first_no sizes) i.workspace after-work
       → ExponentialAnswered i (refused r) i.output after-work
   unfolding exponential_call exponential_table
-  refused-by r after-work h e kept =
+  refused_by r after-work h e kept =
       record {
         answer = rw e;
         least = λ q. absurd (omega (arith, h, q));
@@ -93,12 +93,12 @@ module _ (i : MatrixInputs) where
         workspace = kept;
       }
 
-  sizes-refused :
+  sizes_refused :
       (r : Refusal) → 0 < number_of r → first_no sizes ≡ Outcome.Refused r
       → ExponentialAnswered i (refused r) i.output i.workspace
   unfolding exponential_questions
-  sizes-refused r h e =
-      refused-by r i.workspace h (stops sizes (last is_finite) r e)
+  sizes_refused r h e =
+      refused_by r i.workspace h (stops sizes (last is_finite) r e)
       (kept_same (first_no sizes) i.workspace)
 
   abbrev shape : Bool
@@ -107,18 +107,18 @@ module _ (i : MatrixInputs) where
   abbrev room : ℕ
   room = 5 * (i.dimension * i.dimension)
 
-  pub shape-no :
+  pub shape_no :
       shape ≡ false → ExponentialAnswered i (refused (Plain 26)) i.output i.workspace
   unfolding size_questions first_no
-  shape-no e = sizes-refused (Plain 26) (omega arith) (rw e)
+  shape_no e = sizes_refused (Plain 26) (omega arith) (rw e)
 
   module _ (e : shape ≡ true) where
-    pub workspace-no :
+    pub workspace_no :
         (length i.workspace ≡ room → ⊥)
         → ExponentialAnswered i (refused (Plain 16)) i.output i.workspace
     unfolding size_questions first_no
-    workspace-no h =
-        sizes-refused (Plain 16) (omega arith) (rw (e, ne_eqb (length i.workspace) room h))
+    workspace_no h =
+        sizes_refused (Plain 16) (omega arith) (rw (e, ne_eqb (length i.workspace) room h))
 
     module _ (long : length i.workspace ≡ room) (after-work : List Float) where
       sizes_passed : first_no sizes ≡ Outcome.Passed
@@ -137,7 +137,7 @@ module _ (i : MatrixInputs) where
           → ExponentialAnswered i (refused (Plain 17)) i.output after-work
       unfolding exponentiated first_no
       not_finite q =
-          refused-by (Plain 17) after-work (omega arith) (at_17 false (is_false is_finite _ q)) free
+          refused_by (Plain 17) after-work (omega arith) (at_17 false (is_false is_finite _ q)) free
 
       all_passed : is_finite ≡ true → first_no (exponential_questions i) ≡ Outcome.Passed
       unfolding first_no

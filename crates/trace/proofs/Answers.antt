@@ -72,17 +72,17 @@ module _ (i : TraceInputs) (lent : Tables) where
           then (model_questions i.given) _ (sym prepared.outcome ∙ passed)
           ∙ ap (λ (m : Simulation). first_no (last m)) (sym is_given)
 
-      pub draws-refused :
+      pub draws_refused :
           (r : Tracing) → r ≡ refused (Plain 20) → (length i.draws ≡ s.grid.total → ⊥)
           → TraceAnswered i lent lent r
       unfolding first_no
-      draws-refused r e other = refused_first (Plain 20) r e (left ∙ rw (ne_eqb _ _ other))
+      draws_refused r e other = refused_first (Plain 20) r e (left ∙ rw (ne_eqb _ _ other))
 
       module _ (all : length i.draws ≡ s.grid.total) where
-        pub tables-refused :
+        pub tables_refused :
             (r : Tracing) → r ≡ refused (Plain 21) → right ≡ false → TraceAnswered i lent lent r
         unfolding first_no
-        tables-refused r e other =
+        tables_refused r e other =
             refused_first (Plain 21) r e (left ∙ rw (eq-eqb _ _ all, other))
 
         asked_all : right ≡ true → first_no (trace_questions i lent) ≡ Passed

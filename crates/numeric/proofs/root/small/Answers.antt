@@ -18,8 +18,8 @@ zero_is : root binary64 (of_bits binary64 0) ≡ of_bits binary64 0
 unfolding root of_bits
 zero_is = refl
 
-lead-of : (c : goal.Else-bits-eq0) → Lead c.args.bits (count_leading_zeros 64 c.args.bits)
-lead-of c = lead c.args.bits (omega arith) c.requires
+lead_of : (c : goal.Else-bits-eq0) → Lead c.args.bits (count_leading_zeros 64 c.args.bits)
+lead_of c = lead c.args.bits (omega arith) c.requires
 
 pub returns-then-bits-eq0 : goal.returns-then-bits-eq0
 returns-then-bits-eq0 c =
@@ -27,34 +27,34 @@ returns-then-bits-eq0 c =
 
 pub overflow_cast-up : goal.overflow_cast-up
 overflow_cast-up c =
-    omega (arith, lead-of c)
+    omega (arith, lead_of c)
 
 pub overflow_sub-up : goal.overflow_sub-up
 overflow_sub-up c =
-    omega (arith, lead-of c)
+    omega (arith, lead_of c)
 
 pub overflow_shl-digits : goal.overflow_shl-digits
 overflow_shl-digits c =
-    omega (arith, lead-of c)
+    omega (arith, lead_of c)
 
 pub overflow_sub-e : goal.overflow_sub-e
 overflow_sub-e c =
-    omega (arith, lead-of c)
+    omega (arith, lead_of c)
 
 pub overflow_add-digits : goal.overflow_add-digits
 overflow_add-digits c =
-    omega (arith, (lead-of c).digits)
+    omega (arith, (lead_of c).digits)
 
 pub guess-requires : goal.guess-requires
 guess-requires c =
-    omega (arith, (lead-of c).digits)
+    omega (arith, (lead_of c).digits)
 
 pub scaled-requires : goal.scaled-requires
 scaled-requires c =
-    omega (arith, lead-of c.before, (lead-of c.before).digits)
+    omega (arith, lead_of c.before, (lead_of c.before).digits)
 
 pub returns : goal.returns
 returns c =
     let nonzero = c.before.before in
     let b = nonzero.args.bits in
-    c.scaled.ensures ∙ sym (root_is b (count_leading_zeros 64 b) (omega arith) nonzero.requires (lead-of nonzero))
+    c.scaled.ensures ∙ sym (root_is b (count_leading_zeros 64 b) (omega arith) nonzero.requires (lead_of nonzero))
