@@ -24,6 +24,8 @@ TOKEN = re.compile(r"[^\s(){};,\[\]|.]+|[(){};,\[\]|.]")
 WORD = re.compile(r"[^\s(){};,\[\]|.]+$")
 OPEN, CLOSED = ("(", "{", "["), (")", "}", "]")
 CONTRACT = re.compile(r'^pub extern "C" fn .*?(?=^\{)', re.MULTILINE | re.DOTALL)
+# A struct that contracts see as a value of its own: in specs/ its name stands for that value.
+MODEL = re.compile(r"^impl (?:\w+::)*Model for (\w+) \{\n(.*?)^\}", re.MULTILINE | re.DOTALL)
 USE = re.compile(r"^(?:pub )?use (\w+)::(?:\w+::)*(?:(\w+)|\{([^}]*)\});", re.MULTILINE)
 IMPORT = re.compile(r"(?:pub |ghost )?use (\S+?)(?:\.\{([^}]*)\}| as (\S+?))?;?$")
 
@@ -129,12 +131,26 @@ class Types:
         return seen
 
 
+def values_of_models():
+    """By crate and struct: the imported names in the `Value` of its `impl Model`."""
+    values = {}
+    for path in sorted(CRATES.glob("*/src/**/*.rt")):
+        for struct, block in re.findall(MODEL, path.read_text()):
+            names = {}
+            for line in re.findall(r"^ *(ghost use [^;]*;)", block, re.MULTILINE):
+                read_import(names, " ".join(line.split()))
+            value = re.search(r"ghost Value = \{(.*?)\};", block, re.DOTALL).group(1)
+            values[path.parts[1], struct] = [names[n] for n in free_names(value, names) if n in names]
+    return values
+
+
 class Reach:
     """What is reached, going from name to name."""
 
     def __init__(self, files):
         self.files = {(file.crate, file.module): file for file in files}
         self.definitions, self.types = set(), set()
+        self.values = values_of_models()
 
     def follow(self, place, name):
         """A name of an imported module: a definition, or a type that src/ declares."""
@@ -145,6 +161,8 @@ class Reach:
         if module.startswith("declared."):
             parts = [part for part in module.split(".")[1:] if part != "TheVariants"]
             self.types.add((crate, parts[-1]))
+            for value in self.values.get((crate, parts[-1]), []):
+                self.follow(*value)
         elif (crate, module) in self.files:
             self.name(self.files[crate, module], name)
 

@@ -1,4 +1,3 @@
-mod Entries
 mod Elements
-mod Admitting
-mod Preparing
+mod Entries
+pub mod Admitting

@@ -1,11 +1,12 @@
 // Admission of the kernel tables: questions 2, 3 and 4 (rule 14.3).
-ghost use Rattle.std.specs.Prelude.{◌≡◌};
+ghost use Rattle.std.specs.Prelude.{◌≡◌, ◌≤◌, length, take};
+ghost use Rattle.refusal.specs.Questions.{first_no};
 ghost use Rattle.model.specs.Kernel.{in_range};
+ghost use Rattle.admission.specs.Questions.{count_questions, questions_of};
 ghost use Rattle.admission.specs.Inner.Admission.{KernelPrepared};
 
-use crate::KernelAdmission;
 use model::Kernel;
-use refusal::{Outcome, Refusal};
+use refusal::{Outcome, Refusal, Table};
 
 // 2^-90 and 2^90.
 const SMALLEST: f64 = 8.077935669463161e-28;
@@ -19,59 +20,48 @@ fn in_range(x: f64) -> bool
     SMALLEST <= x && x <= LARGEST
 }
 
-fn refused(refusal: Refusal) -> KernelAdmission
-    ensures { (result.outcome ≡ Outcome.Refused refusal) × (result.kernel.n ≡ 0) }
+// Questions 2 and 3, of tables of so many weights and discounts.
+#[tactic(auto, unfolding(refusal::specs::Questions::first_no))]
+fn count_questions(weights: usize, discounts: usize) -> Outcome
+    ensures { result ≡ first_no (count_questions weights discounts) }
 {
-    let nothing = [0.0; 10];
-    KernelAdmission {
-        outcome: Outcome::Refused(refusal),
-        kernel: Kernel {
-            n: 0,
-            weights: nothing,
-            discounts: nothing,
-        },
-    }
+    refusal::ensure(1 <= weights && weights <= 10, Refusal::WeightCount)?;
+    refusal::ensure(discounts == weights, Refusal::DiscountCount)
+}
+
+// Question 4 of a weight and the discount beside it, counted from 1.
+#[tactic(auto, unfolding(refusal::specs::Questions::first_no))]
+fn entry_questions(weight: f64, discount: f64, index: u64) -> Outcome
+    ensures { result ≡ first_no (questions_of weight discount index) }
+{
+    let table = Table::Weights;
+    refusal::ensure(in_range(weight), Refusal::OutOfRange { table, index })?;
+    let table = Table::Discounts;
+    refusal::ensure(in_range(discount), Refusal::OutOfRange { table, index })
+}
+
+// Ten entries at most, in the first places of ten.
+fn kept(entries: &[f64]) -> [f64; 10]
+    requires { length entries.now ≤ 10 }
+    ensures { take (length entries.now) result ≡ entries.now }
+{
+    let mut all = [0.0; 10];
+    all[..entries.len()].copy_from_slice(entries);
+    all
 }
 
 // The tables of weights and discounts, copied.
-pub fn tables(weights: &[f64], discounts: &[f64]) -> KernelAdmission
+pub fn tables(weights: &[f64], discounts: &[f64]) -> Result<Kernel, Refusal>
     ensures { KernelPrepared weights.now discounts.now result }
 {
     let n = weights.len();
-    if n == 0 || 10 < n {
-        return refused(Refusal::Plain(2));
+    count_questions(n, discounts.len())?;
+    for i in 0..n {
+        entry_questions(weights[i], discounts[i], (i as u64) + 1)?;
     }
-    if discounts.len() != n {
-        return refused(Refusal::Plain(3));
-    }
-    let mut kept_weights = [0.0; 10];
-    let mut kept_discounts = [0.0; 10];
-    let mut i: usize = 0;
-    while i < n {
-        let weight = weights[i];
-        let discount = discounts[i];
-        if !in_range(weight) {
-            return refused(Refusal::InTable {
-                table: 1,
-                index: (i as u64) + 1,
-            });
-        }
-        if !in_range(discount) {
-            return refused(Refusal::InTable {
-                table: 2,
-                index: (i as u64) + 1,
-            });
-        }
-        kept_weights[i] = weight;
-        kept_discounts[i] = discount;
-        i += 1;
-    }
-    KernelAdmission {
-        outcome: Outcome::Passed,
-        kernel: Kernel {
-            n: n,
-            weights: kept_weights,
-            discounts: kept_discounts,
-        },
-    }
+    Ok(Kernel {
+        n,
+        weights: kept(weights),
+        discounts: kept(discounts),
+    })
 }

@@ -3,62 +3,34 @@
 #![tactic(auto)]
 
 ghost use Rattle.admission.specs.Inner.Admission.{ModelPrepared};
-ghost use Rattle.model.specs.Simulation.{given};
+ghost use Rattle.admission.specs.Inner.Given.{given_of};
 
-use model::{Kernel, Model, Params, Schedule, Simulation, State};
-use refusal::Outcome;
+use model::{Model, Schedule, Simulation};
+use refusal::Refusal;
 
 pub mod kernel;
 pub mod params;
 
-// An admission has what its questions came to and, where all passed, what was prepared.
+// What every simulating call is given.
 #[derive(Clone, Copy)]
-pub struct KernelAdmission {
-    pub outcome: Outcome,
-    pub kernel: Kernel,
-}
-
-#[derive(Clone, Copy)]
-pub struct ParamsAdmission {
-    pub outcome: Outcome,
-    pub params: Params,
-    pub start: State,
-}
-
-#[derive(Clone, Copy)]
-pub struct ModelAdmission {
-    pub outcome: Outcome,
-    pub simulation: Simulation,
+pub struct Given<'a> {
+    pub weights: &'a [f64],
+    pub discounts: &'a [f64],
+    pub model: Model,
+    pub schedule: Schedule,
 }
 
 // Admission to every simulating call: kernel tables, then parameters, then segments.
-pub fn prepare(
-    weights: &[f64],
-    discounts: &[f64],
-    model: Model,
-    schedule: Schedule,
-) -> ModelAdmission
-    ensures { ModelPrepared
-        (given weights.now discounts.now model schedule) result }
+pub fn prepare(given: &Given) -> Result<Simulation, Refusal>
+    ensures { ModelPrepared (given_of given.now) result }
 {
-    let tables = kernel::tables(weights, discounts);
-    let first = tables.outcome;
-    let k = tables.kernel;
-    let initial = params::try_new(k, model);
-    let second = initial.outcome;
-    let laid = schedule::from_segments(schedule);
-    let third = laid.outcome;
-    let outcome = refusal::or_later(first, refusal::or_later(second, third));
-    let params = initial.params;
-    let start = initial.start;
-    let grid = laid.grid;
-    ModelAdmission {
-        outcome: outcome,
-        simulation: Simulation {
-            kernel: k,
-            params: params,
-            start: start,
-            grid: grid,
-        },
-    }
+    let kernel = kernel::tables(given.weights, given.discounts)?;
+    let initial = params::try_new(kernel, given.model)?;
+    let grid = schedule::from_segments(given.schedule)?;
+    Ok(Simulation {
+        kernel,
+        params: initial.params,
+        start: initial.start,
+        grid,
+    })
 }

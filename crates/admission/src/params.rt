@@ -1,29 +1,33 @@
 // Admission of the parameters: questions 5 to 10 (rule 14.4), then 1 (14.5).
 ghost use Rattle.std.specs.Prelude.{◌≡◌, ◌≤◌, take};
 ghost use Rattle.refusal.specs.Questions.{first_no, each};
-ghost use Rattle.admission.specs.Questions.{factor_questions, range_questions, scale_questions};
+ghost use Rattle.admission.specs.Questions.{factor_questions, range_questions};
+ghost use Rattle.admission.specs.Questions.{parameter_scale_questions, scale_questions};
 ghost use Rattle.model.specs.Parameters.{params_of, factors_of};
 ghost use Rattle.admission.specs.Inner.Admission.{ParamsPrepared};
 
-use crate::ParamsAdmission;
 use decimal::Decimal;
-use model::{Kernel, Model, Params, scheme};
+use model::{Kernel, Model, Params, State, scheme};
 use refusal::{Outcome, Refusal};
 
+// The parameters as converted, and the state that a walk starts from.
+#[derive(Clone, Copy)]
+pub struct Initial {
+    pub params: Params,
+    pub start: State,
+}
+
 // Questions 5 to 10.
+#[tactic(auto, unfolding(refusal::specs::Questions::first_no, crate::specs::Questions::range_questions))]
 fn ranges(n: usize, p: Model) -> Outcome
     ensures { result ≡ first_no (range_questions n p) }
 {
-    let asked = refusal::ask(
-        Outcome::Passed,
-        Refusal::Plain(5),
-        !decimal::is_negative(p.a),
-    );
-    let asked = refusal::ask(asked, Refusal::Plain(6), decimal::is_positive(p.c));
-    let asked = refusal::ask(asked, Refusal::Plain(7), decimal::is_positive(p.lambda));
-    let asked = refusal::ask(asked, Refusal::Plain(8), decimal::is_positive(p.eta));
-    let asked = refusal::ask(asked, Refusal::Plain(9), decimal::is_positive(p.spot));
-    refusal::ask(asked, Refusal::Plain(10), p.factor_count == n)
+    refusal::ensure(!p.a.is_negative(), Refusal::A)?;
+    refusal::ensure(p.c.is_positive(), Refusal::C)?;
+    refusal::ensure(p.lambda.is_positive(), Refusal::Lambda)?;
+    refusal::ensure(p.eta.is_positive(), Refusal::Eta)?;
+    refusal::ensure(p.spot.is_positive(), Refusal::Spot)?;
+    refusal::ensure(p.factor_count == n, Refusal::FactorCount)
 }
 
 // Question 1 of each of n factors.
@@ -31,40 +35,45 @@ pub fn factor_scales(n: usize, factors: [Decimal; 10]) -> Outcome
     requires { n ≤ 10 }
     ensures { result ≡ first_no (each (factor_questions factors) n) }
 {
-    let mut i: usize = 0;
-    while i < n {
-        if !decimal::scale_fits(factors[i]) {
-            return Outcome::Refused(Refusal::Plain(1));
-        }
-        i += 1;
+    for i in 0..n {
+        refusal::ensure(factors[i].scale_fits(), Refusal::Scale)?;
     }
-    Outcome::Passed
+    Ok(())
 }
 
-// Question 1 of a, b, c, lambda, eta, the factors and spot.
+// Question 1 of a, b, c, lambda and eta.
+#[tactic(auto, unfolding(refusal::specs::Questions::first_no))]
+fn parameter_scales(p: Model) -> Outcome
+    ensures { result ≡ first_no (parameter_scale_questions p) }
+{
+    refusal::ensure(p.a.scale_fits(), Refusal::Scale)?;
+    refusal::ensure(p.b.scale_fits(), Refusal::Scale)?;
+    refusal::ensure(p.c.scale_fits(), Refusal::Scale)?;
+    refusal::ensure(p.lambda.scale_fits(), Refusal::Scale)?;
+    refusal::ensure(p.eta.scale_fits(), Refusal::Scale)
+}
+
+// Question 1 of the parameters, the factors and spot.
+#[tactic(auto, using(refusal::proofs::Laws::append), unfolding(refusal::specs::Questions::first_no, crate::specs::Questions::scale_questions))]
 fn scales(n: usize, p: Model) -> Outcome
     requires { n ≤ 10 }
     ensures { result ≡ first_no (scale_questions n p) }
 {
+    parameter_scales(p)?;
     let factors = p.factors;
-    let asked = refusal::ask(Outcome::Passed, Refusal::Plain(1), decimal::scale_fits(p.a));
-    let asked = refusal::ask(asked, Refusal::Plain(1), decimal::scale_fits(p.b));
-    let asked = refusal::ask(asked, Refusal::Plain(1), decimal::scale_fits(p.c));
-    let asked = refusal::ask(asked, Refusal::Plain(1), decimal::scale_fits(p.lambda));
-    let asked = refusal::ask(asked, Refusal::Plain(1), decimal::scale_fits(p.eta));
-    let asked = refusal::or_later(asked, factor_scales(n, factors));
-    refusal::ask(asked, Refusal::Plain(1), decimal::scale_fits(p.spot))
+    factor_scales(n, factors)?;
+    refusal::ensure(p.spot.scale_fits(), Refusal::Scale)
 }
 
 pub fn params_of(p: Model) -> Params
     ensures { result ≡ params_of p }
 {
     Params {
-        a: decimal::double_of(p.a),
-        b: decimal::double_of(p.b),
-        c: decimal::double_of(p.c),
-        lambda: decimal::double_of(p.lambda),
-        eta: decimal::double_of(p.eta),
+        a: p.a.value(),
+        b: p.b.value(),
+        c: p.c.value(),
+        lambda: p.lambda.value(),
+        eta: p.eta.value(),
     }
 }
 
@@ -74,30 +83,26 @@ pub fn factors_of(n: usize, factors: [Decimal; 10]) -> [f64; 10]
     ensures { take n result ≡ factors_of n factors }
 {
     let mut converted = [0.0; 10];
-    let mut i: usize = 0;
-    while i < n {
-        converted[i] = decimal::double_of(factors[i]);
-        i += 1;
+    for i in 0..n {
+        converted[i] = factors[i].value();
     }
     converted
 }
 
-// The parameters as converted, and the state that a walk starts from. They count where the outcome
-// is Passed.
-pub fn try_new(k: Kernel, p: Model) -> ParamsAdmission
-    requires { k.n ≤ 10 }
+// The parameters as converted, and the start.
+#[tactic(auto, using(refusal::proofs::Laws::append), unfolding(crate::specs::Questions::params_questions))]
+pub fn try_new(k: Kernel, p: Model) -> Result<Initial, Refusal>
     ensures { ParamsPrepared k p result }
 {
     let n = k.n;
-    let given = p.factors;
-    let first = ranges(n, p);
-    let then = scales(n, p);
+    ranges(n, p)?;
+    scales(n, p)?;
     let params = params_of(p);
-    let spot = decimal::double_of(p.spot);
+    let spot = p.spot.value();
+    let given = p.factors;
     let factors = factors_of(n, given);
-    ParamsAdmission {
-        outcome: refusal::or_later(first, then),
-        params: params,
+    Ok(Initial {
+        params,
         start: scheme::read(k, params, spot, spot, factors),
-    }
+    })
 }

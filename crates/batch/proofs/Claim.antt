@@ -11,7 +11,7 @@ use lib.Ieee.{Float, nan}
 use lib.ListN.{length}
 use Rattle.numeric.proofs.Tables.{length_tabulate, get_d_tabulate}
 use Rattle.refusal.specs.declared.Quantity.{Quantity}
-use Rattle.model.specs.declared.Finiteness.TheVariants.{NonFinite}
+use Rattle.std.specs.Prelude.{Result, Ok, Err}
 use Rattle.model.specs.Step.{finiteness}
 use Rattle.model.specs.TimeGrid.{last_step, contains, dt_at, sqrt_dt_at}
 use Rattle.model.specs.Inner.Laid.{Laid}
@@ -31,9 +31,10 @@ use Rattle.walks.specs.Batch.{Batch, walk_of, observation}
 use Rattle.walks.proofs.Cells.{row_below}
 use Rattle.estimates.specs.declared.Payoff.{Payoff}
 use Rattle.estimates.proofs.Values.{SameUpTo}
-use Rattle.paths.specs.declared.Run.{Run}
-use Rattle.batch.specs.declared.Priced.{Priced}
-use Rattle.batch.specs.declared.Priced.TheVariants.{Price}
+use Rattle.paths.specs.declared.Walked.{Walked}
+use Rattle.paths.specs.declared.Refused.{Refused}
+use Rattle.batch.specs.Report.{Priced}
+use Rattle.paths.specs.Run.{refusal_at, steps_at}
 use Rattle.paths.specs.Run.{RunStop, on_path, run_stop, entry_after, table_after}
 use Rattle.batch.specs.Report.{reported, refused_after, report_with, priced_at, priced_run}
 use Rattle.batch.specs.Claim.{priced_answer, answer_of, OneTo, state_of, FiniteAt, StepTaken, PlainWalks}
@@ -41,7 +42,7 @@ use Rattle.batch.specs.Claim.{SomeStepFails, FiniteBefore, FirstFailure, report_
 use Rattle.batch.specs.Claim.{entry, Written, BatchClaim}
 use Rattle.tally.specs.Inner.Rows.{last_observation}
 use Rattle.paths.specs.Inner.Handed.{walked_of, run_at, run_answer, BatchRun}
-use Rattle.batch.specs.Inner.Handed.{reported_of, priced_from, priced_after, BatchPriced}
+use Rattle.batch.specs.Inner.Handed.{reported_of, priced_from, BatchPriced}
 use Rattle.batch.proofs.Reporting.{reported_read, reported_other, reported_same, questions_same}
 use Rattle.paths.proofs.Stops.{run_stop_at, entry_new, entry_run, entry_path}
 
@@ -128,7 +129,7 @@ module _ (b : Batch) where
       }
 
   finite_apart :
-      (p k : ℕ) (q : Quantity) → finiteness (state_of b p k) ≡ NonFinite q → FiniteAt b p k → ⊥
+      (p k : ℕ) (q : Quantity) → finiteness (state_of b p k) ≡ Err q → FiniteAt b p k → ⊥
   finite_apart p k q e f = let z : ◌≡◌ {A = ℕ} 0 1 = cc in omega arith
 
 -- ---- 3
@@ -266,7 +267,7 @@ module _
     done e =
         let other : ((answer_of b (priced_at b payoff none)).number ≡ 22 → ⊥) =
         reported_other b.observed payoff seen lowest b.paths refused
-        (λ x. Price (report_with b x)) (λ r. (answer_of b r).number ≡ 22 → ⊥) (λ r other. other) (λ x h. omega (arith, h)) in
+        (λ x. Ok (report_with b x)) (λ r. (answer_of b r).number ≡ 22 → ⊥) (λ r other. other) (λ x h. omega (arith, h)) in
         record {
           walks = walks;
           exactly = (
@@ -280,7 +281,7 @@ module _
           names = λ h. absurd (other h);
           otherwise = λ none.
               reported_read b.observed payoff seen lowest b.paths refused
-              (λ x. Price (report_with b x)) (answer_of b)
+              (λ x. Ok (report_with b x)) (answer_of b)
               ∙ reported_same b.observed payoff seen walked lowest b.paths
               (λ p l h. last_step_lem p) _ (λ x. priced_answer b.observed (report_with b x));
           written = written b lent laid.some rows;
@@ -313,13 +314,6 @@ module _
           paths = λ r k h l is_step. finite r k h (omega arith) is_step;
         })
 
--- a run keeps the table's length
-pub run_long :
-    {b : Batch} {payoff : Payoff} {lent after : List Float} {r : Run}
-    → BatchRun b payoff lent after r → length after ≡ length lent
-unfolding table_after
-run_long {b} {payoff} {lent} h = ap length h.table ∙ length_tabulate (length lent) _
-
 -- ---- what is made of the run and of the last column is what is made of the plain walks
 module _
     (handed : Handed) (draws : List Float) (payoff : Payoff) (laid : Laid handed.simulation.grid)
@@ -332,31 +326,53 @@ module _
     abbrev table : List Float
     table = table_after batch lent
 
-    priced_is : priced_after (run_answer batch payoff) handed table ≡ priced_run batch payoff
-    unfolding run_answer priced_run priced_from reported_of reported report_with
-    priced_is = go (run_stop batch batch.paths) refl
-      where
-        go :
-            (o : Option RunStop) → run_stop batch batch.paths ≡ o
-            → priced_after (run_at batch payoff o) handed table ≡ priced_at batch payoff o
-        go (some x) e = refl
-        go none e =
-            ap
-            (λ (q : List Question).
-            once_asked (first_no q) (refused_after (batch.paths * batch.simulation.grid.total))
-            (reported_of (walked_of batch payoff) batch.paths))
-            (questions_same batch.observed _ _ batch.paths
-            (last_observed batch payoff (laid_in_use _ laid) admitted lent rows e))
+    -- a run that stops
+    stops : (o : Option RunStop) (x : Refused) → Err x ≡ run_at batch payoff o
+        → Err x ≡ priced_at batch payoff o
+    stops none x e = let never : ◌≡◌ {A = ℕ} 0 1 = cc in absurd (omega arith)
+    stops (some y) x e =
+        let stop : Refused = record { refusal = refusal_at batch y; steps = steps_at batch y } in
+        let same : x ≡ stop = cc in
+        ap Err same
 
-    pub batch_priced :
-        {after : List Float} {ran : Run} {r : Priced} → BatchRun batch payoff lent after ran
-        → r ≡ priced_after ran handed after → BatchPriced batch payoff lent after r
-    batch_priced {after} {ran} {r} run made =
-        let is : r ≡ priced_run batch payoff = made ∙ rw (run.answer, run.table) priced_is in
+    -- one that goes through
+    goes : (o : Option RunStop) → run_stop batch batch.paths ≡ o → (w : Walked)
+        → Ok w ≡ run_at batch payoff o
+        → priced_from w handed table ≡ priced_at batch payoff o
+    unfolding priced_from reported_of reported report_with
+    goes (some y) h w e = let never : ◌≡◌ {A = ℕ} 0 1 = cc in absurd (omega arith)
+    goes none h w e =
+        let is : w ≡ walked_of batch payoff = cc in
+        rw is
+        (ap
+        (λ (q : List Question).
+        once_asked (first_no q) (refused_after (batch.paths * batch.simulation.grid.total))
+        (reported_of (walked_of batch payoff) batch.paths))
+        (questions_same batch.observed _ _ batch.paths
+        (last_observed batch payoff (laid_in_use _ laid) admitted lent rows h)))
+
+    priced_so : {after : List Float} {r : Priced} → r ≡ priced_run batch payoff → after ≡ table
+        → BatchPriced batch payoff lent after r
+    priced_so is same =
         record {
           answer = is;
-          table = run.table;
+          table = same;
           claim =
-              rw (is, run.table)
-              (batch_claim batch payoff (laid_in_use _ laid) admitted lent rows);
+              rw (is, same) (batch_claim batch payoff (laid_in_use _ laid) admitted lent rows);
         }
+
+    pub run_refused :
+        {after : List Float} (x : Refused) → BatchRun batch payoff lent after (Err x)
+        → BatchPriced batch payoff lent after (Err x)
+    unfolding run_answer priced_run
+    run_refused x run = priced_so (stops (run_stop batch batch.paths) x run.answer) run.table
+
+    pub run_priced :
+        {after : List Float} (w : Walked) {r : Priced} → BatchRun batch payoff lent after (Ok w)
+        → r ≡ priced_from w handed after → BatchPriced batch payoff lent after r
+    unfolding run_answer priced_run
+    run_priced w run made =
+        priced_so
+        (made ∙ ap (priced_from w handed) run.table
+        ∙ goes (run_stop batch batch.paths) refl w run.answer)
+        run.table

@@ -1,16 +1,16 @@
 -- What is made of the last observations of a batch. Assumes nothing.
-use mathlib.Core.Path.{◌≡◌, refl, sym, ap, ◌∙◌}
+use mathlib.Core.Path.{◌≡◌, refl, ap, ◌∙◌}
 use mathlib.Core.List.{List}
 use Prim.Native.Nat.{ℕ, zero, suc}
 use native.Mathlib.Omega.{arith}
 use lib.Ieee.{Float}
-use Rattle.refusal.specs.declared.Outcome.{Outcome}
-use Rattle.refusal.specs.declared.Outcome.TheVariants.{Passed, Refused}
+use Rattle.std.specs.Prelude.{Ok, Err, Some, None}
+use Rattle.std.specs.Prelude.{Option as Optional}
 use Rattle.refusal.specs.declared.Refusal.{Refusal}
-use Rattle.refusal.specs.declared.Refusal.TheVariants.{Estimate}
 use Rattle.refusal.specs.Refusal.{number_of}
 use Rattle.refusal.proofs.Laws.{Each, each_all, first_has}
-use Rattle.refusal.specs.Questions.{Question, first_no, each, once_asked}
+use Rattle.refusal.specs.declared.Reported.{Reported}
+use Rattle.refusal.specs.Questions.{Question, Outcome, first_no, each, once_asked}
 use Rattle.walks.specs.declared.Observed.{Observed}
 use Rattle.walks.specs.declared.Observed.TheVariants.{Spot, VixSquared}
 use Rattle.estimates.specs.declared.Estimates.{Estimates}
@@ -19,15 +19,10 @@ use Rattle.estimates.specs.declared.Tally.{Tally}
 use Rattle.estimates.specs.Payoff.{underlying_of}
 use Rattle.estimates.specs.Moments.{tally_of, estimates_from, not_finite}
 use Rattle.estimates.proofs.Values.{SameUpTo, tally_same}
-use Rattle.paths.specs.declared.Walked.{Walked}
-use Rattle.batch.specs.declared.Priced.{Priced}
-use Rattle.batch.specs.declared.Priced.TheVariants as priced
 use Rattle.batch.specs.Report.{squared_questions, last_questions, unless_not_finite, reported}
-use Rattle.batch.specs.Report.{refused_after}
-use Rattle.batch.specs.Inner.Handed.{reported_of}
 
 -- by the outcome of 23 and 24, and by which estimate is not finite
-abbrev by : {A : Type 0} → Outcome → ℕ → (Refusal → A) → A → A
+abbrev by : {A : Type 0} → Outcome → Optional Reported → (Refusal → A) → A → A
 by asked which refused priced = once_asked asked refused (unless_not_finite which refused priced)
 
 -- the estimates
@@ -37,11 +32,11 @@ made o payoff last lowest n =
 
 -- ---- a reading of what is made is made of the readings
 by_read :
-    {A B : Type 0} (f : A → B) (asked : Outcome) (which : ℕ) (refused : Refusal → A) (priced : A)
+    {A B : Type 0} (f : A → B) (asked : Outcome) (which : Optional Reported) (refused : Refusal → A) (priced : A)
     → f (by asked which refused priced) ≡ by asked which (λ r. f (refused r)) (f priced)
-by_read f Passed zero refused priced = refl
-by_read f Passed (suc which) refused priced = refl
-by_read f (Refused first) which refused priced = refl
+by_read f (Ok _) None refused priced = refl
+by_read f (Ok _) (Some which) refused priced = refl
+by_read f (Err first) which refused priced = refl
 
 -- ---- what holds of a price and of each refusal but 22 holds of what is made
 abbrev pub Other : Refusal → Type 0
@@ -55,12 +50,12 @@ last_other Spot last n = tt
 last_other VixSquared last n = each_all Other (squared_questions last) (squared_other last) n
 
 by_other :
-    {A : Type 0} (P : A → Type 0) (asked : Outcome) (which : ℕ) (refused : Refusal → A) (priced : A)
-    → ((r : Refusal) → asked ≡ Refused r → Other r) → ((r : Refusal) → Other r → P (refused r))
+    {A : Type 0} (P : A → Type 0) (asked : Outcome) (which : Optional Reported) (refused : Refusal → A) (priced : A)
+    → ((r : Refusal) → asked ≡ Err r → Other r) → ((r : Refusal) → Other r → P (refused r))
     → P priced → P (by asked which refused priced)
-by_other P Passed zero refused priced other r p = p
-by_other P Passed (suc which) refused priced other r p = r _ (λ e. omega (arith, e))
-by_other P (Refused first) which refused priced other r p = r first (other first refl)
+by_other P (Ok _) None refused priced other r p = p
+by_other P (Ok _) (Some which) refused priced other r p = r _ (λ e. omega (arith, e))
+by_other P (Err first) which refused priced other r p = r first (other first refl)
 
 module _
     {A : Type 0} (o : Observed) (payoff : Payoff) (last lowest : ℕ → Float) (n : ℕ)
@@ -119,34 +114,3 @@ reported_same o payoff f g lowest n same refused priced =
     (questions_same o f g n same)
     ∙ ap (λ (t : Tally). by (first_no (last_questions o g n)) (not_finite (estimates_from t)) refused (priced (estimates_from t)))
     (tally_same payoff (shown f) (shown g) lowest n (λ p l h. ap (underlying_of o) (same p l h)))
-
--- ---- the report of a tally
-module _
-    (w : Walked) {made : Estimates} (e : made ≡ estimates_from w.tally) (paths : ℕ) {which : ℕ}
-    (i : which ≡ not_finite made)
-  where
-    some_not_finite :
-        (x : ℕ) (answered : Priced) → (x ≡ 0 → ⊥)
-        → priced.Refused (Estimate x) w.steps ≡ unless_not_finite x (refused_after w.steps) answered
-    some_not_finite zero answered h = absurd (h refl)
-    some_not_finite (suc x) answered h = refl
-
-    pub all_finite_lem :
-        which ≡ 0
-        → priced.Price
-        (record {
-          estimates = made;
-          paths = paths;
-          non_positive = w.non_positive;
-          steps = w.steps;
-        })
-        ≡ reported_of w paths
-    unfolding reported_of
-    all_finite_lem h = let none : not_finite (estimates_from w.tally) ≡ 0 = ap not_finite (sym e) ∙ sym i ∙ h in rw (e, none)
-
-    pub one_not_finite :
-        (which ≡ 0 → ⊥) → priced.Refused (Estimate which) w.steps ≡ reported_of w paths
-    unfolding reported_of
-    one_not_finite h =
-        let is : which ≡ not_finite (estimates_from w.tally) = i ∙ ap not_finite e in
-        rw (← is) (some_not_finite which _ h)

@@ -1,6 +1,6 @@
 -- How many paths, draws and observations a batch may have: what questions 19 to 21 leave. Assumes
 -- nothing.
-use mathlib.Core.Path.{◌≡◌, ◌∙◌}
+use mathlib.Core.Path.{◌≡◌}
 use mathlib.Core.Bool.{Bool, true, false, not, ◌&&◌, ◌||◌, and-eq-true_iff}
 use mathlib.Core.List.{List, [], ◌∷◌}
 use Prim.Native.Nat.{ℕ, ◌*◌, ◌%◌, ◌≤◌}
@@ -10,12 +10,9 @@ use lib.Dec.{eqb, leb}
 use lib.ListN.{length}
 use lib.Ieee.{Float}
 use borrow.Author.Tests.{leb-true, eqb-true}
-use Rattle.refusal.specs.declared.Outcome.{Outcome}
-use Rattle.refusal.specs.declared.Outcome.TheVariants.{Passed, Refused}
-use Rattle.refusal.specs.declared.Refusal.TheVariants.{Plain}
-use Rattle.refusal.specs.Questions.{Question, asked, first_no}
-use Rattle.refusal.specs.Inner.Asking.{further}
-use Rattle.refusal.proofs.Laws.{in_turn, passed_head, passed_tail, passed_first, passed_then}
+use Rattle.refusal.specs.declared.Refusal.TheVariants.{Paths, Draws, Lengths}
+use Rattle.refusal.specs.Questions.{Question, ask, first_no, passed}
+use Rattle.refusal.proofs.Laws.{passed_head, passed_tail, passed_first, passed_then}
 use Rattle.model.specs.declared.TimeGrid.{TimeGrid}
 use Rattle.walks.specs.declared.Batch.{Batch as Handed}
 use Rattle.walks.specs.Batch.{draws_needed}
@@ -52,33 +49,19 @@ module _ (mirrored : Bool) (paths : ℕ) (pass : paths_pass mirrored paths ≡ t
 -- ---- 19 and 20
 module _ (sched : TimeGrid) (mirrored : Bool) (paths drawn : ℕ) where
   abbrev enough : ℕ → Question
-  enough needed = asked 20 (eqb drawn needed)
-
-  pub paths_refused :
-      paths_pass mirrored paths ≡ false
-      → Refused (Plain 19) ≡ first_no (path_questions sched mirrored paths drawn)
-  unfolding first_no path_questions
-  paths_refused fails = rw fails
-
-  pub draws_asked :
-      paths_pass mirrored paths ≡ true → {needed : ℕ}
-      → needed ≡ draws_needed mirrored paths sched.total → {r : Outcome}
-      → r ≡ further Passed (enough needed) → r ≡ first_no (path_questions sched mirrored paths drawn)
-  unfolding first_no path_questions
-  draws_asked passes need first =
-      first ∙ rw (need, passes) (in_turn (enough (draws_needed mirrored paths sched.total) ∷ []))
+  enough needed = ask Draws (eqb drawn needed)
 
   pub paths_passed :
-      first_no (path_questions sched mirrored paths drawn) ≡ Passed → paths_pass mirrored paths ≡ true
+      first_no (path_questions sched mirrored paths drawn) ≡ passed → paths_pass mirrored paths ≡ true
   unfolding path_questions
-  paths_passed h = passed_head (asked 19 (paths_pass mirrored paths)) _ h
+  paths_passed h = passed_head (ask Paths (paths_pass mirrored paths)) _ h
 
   pub draws_passed :
-      first_no (path_questions sched mirrored paths drawn) ≡ Passed
+      first_no (path_questions sched mirrored paths drawn) ≡ passed
       → drawn ≡ draws_needed mirrored paths sched.total
   unfolding path_questions
   draws_passed h =
-      let first = asked 19 (paths_pass mirrored paths) in
+      let first = ask Paths (paths_pass mirrored paths) in
       let second = enough (draws_needed mirrored paths sched.total) in
       eqb-true _ _ (passed_head second [] (passed_tail first (second ∷ []) h))
 
@@ -87,13 +70,13 @@ pub prepared :
     (b : Handed) (draws lent : List Float) → Ready b
     → first_no
     (batch_questions b.simulation.grid b.mirrored b.paths (length draws) (length lent))
-    ≡ Passed
+    ≡ passed
     → Prepared b draws lent
-prepared b draws lent ready passed =
+prepared b draws lent ready all =
     let grid = b.simulation.grid in
     let before = path_questions grid b.mirrored b.paths (length draws) in
     let rows = table_questions grid b.paths (length lent) in
-    let first = passed_first before rows passed in
+    let first = passed_first before rows all in
     let pass = paths_passed grid b.mirrored b.paths (length draws) first in
     record {
       admitted = ready.admitted;
@@ -102,5 +85,5 @@ prepared b draws lent ready passed =
       most = paths_most b.mirrored b.paths pass;
       pairs = paths_even b.mirrored b.paths pass;
       drawn = draws_passed grid b.mirrored b.paths (length draws) first;
-      rows = eqb-true _ _ (passed_head (asked 21 (eqb (length lent) (b.paths * grid.count))) [] (passed_then before rows passed));
+      rows = eqb-true _ _ (passed_head (ask Lengths (eqb (length lent) (b.paths * grid.count))) [] (passed_then before rows all));
     }

@@ -1,30 +1,30 @@
--- What 23 and 24 come to for one path, by the tests that the code makes of its last VIX squared.
--- Assumes nothing.
-use mathlib.Core.Path.{◌≡◌, sym}
-use mathlib.Core.Bool.{true, false}
-use Prim.Native.Nat.{ℕ, suc, ◌+◌}
-use native.Mathlib.Numerals.{add-one}
-use lib.Ieee.{Float, le}
+-- What 23 and 24 come to for one path, by what its last VIX squared has. Assumes nothing.
+use mathlib.Core.Path.{◌≡◌, refl}
+use mathlib.Core.Bool.{Bool, true, false}
+use Prim.Native.Nat.{ℕ}
+use lib.Ieee.{Float, lt}
+use Rattle.std.specs.Prelude.{Some, Result, Ok, Err}
 use Rattle.numeric.specs.Double.{plus_zero, finite}
-use Rattle.numeric.proofs.Above.{above_zero}
-use Rattle.refusal.specs.declared.Refusal.TheVariants.{OnPath}
-use Rattle.refusal.specs.declared.Outcome.TheVariants.{Passed, Refused}
-use Rattle.refusal.specs.Questions.{first_no}
-use Rattle.batch.specs.Report.{squared_questions}
+use Rattle.refusal.specs.declared.Refusal.TheVariants.{Squared}
+use Rattle.refusal.specs.declared.BadSquared.{BadSquared}
+use Rattle.refusal.specs.declared.BadSquared.TheVariants.{NotFinite, NotPositive}
+use Rattle.refusal.specs.Questions.{Outcome, passed, first_no, unless}
+use Rattle.vix.specs.Evaluation.{checked_by, checked}
+use Rattle.batch.specs.Report.{questions_of_squared}
 
--- ---- the questions about path i + 1, whose last squared value is x
-module _ (squared : ℕ → Float) (i : ℕ) {x : Float} (value : x ≡ squared (i + 1)) where
-  same : squared (suc i) ≡ x
-  same = rw (← add-one i) (sym value)
+-- of path p
+abbrev pub of_path : ℕ → Result Unit BadSquared → Outcome
+of_path p (Ok _) = passed
+of_path p (Err fault) = Err (Squared fault (Some p))
 
-  pub not_finite : finite x ≡ false → first_no (squared_questions squared (suc i)) ≡ Refused (OnPath 23 (i + 1))
-  unfolding first_no
-  not_finite fails = rw (add-one, same, fails)
+both : (p : ℕ) (f a : Bool)
+    → unless f (Squared NotFinite (Some p)) (unless a (Squared NotPositive (Some p)) passed)
+    ≡ of_path p (checked_by f a)
+both p false a = refl
+both p true false = refl
+both p true true = refl
 
-  pub not_above : finite x ≡ true → le x plus_zero ≡ true → first_no (squared_questions squared (suc i)) ≡ Refused (OnPath 24 (i + 1))
-  unfolding first_no
-  not_above holds low = rw (add-one, same, holds, above_zero x holds, low)
-
-  pub above : finite x ≡ true → le x plus_zero ≡ false → first_no (squared_questions squared (suc i)) ≡ Passed
-  unfolding first_no
-  above holds high = rw (same, holds, above_zero x holds, high)
+pub asked_is : (squared : Float) (p : ℕ)
+    → first_no (questions_of_squared squared p) ≡ of_path p (checked squared)
+unfolding first_no checked
+asked_is squared p = both p (finite squared) (lt plus_zero squared)

@@ -3,15 +3,16 @@
 -- the plain walks, the schedule and the payoff alone, not of how the paths are run. At a field
 -- stands which wrong cores it excludes: crates/figures/specs/Excluded.antt proves it, each by that
 -- field. Definitions only.
-use Rattle.std.specs.Prelude.{◌≡◌, true, List, [], ◌∷◌, ◌↔◌, ℕ, pred, ◌+◌, ◌*◌, ◌<◌, ◌≤◌, length, get_or, Float}
+use Rattle.std.specs.Prelude.{◌≡◌, true, List, [], ◌∷◌, ◌↔◌, ℕ, pred, length, get_or, Float}
+use Rattle.std.specs.Prelude.{◌+◌, ◌*◌, ◌<◌, ◌≤◌}
+use Rattle.std.specs.Prelude.{Ok, Err}
 use Rattle.std.specs.Float.{nan}
 use Rattle.numeric.specs.Double.{plus_zero}
 use Rattle.refusal.specs.declared.Quantity.{Quantity}
 use Rattle.refusal.specs.declared.Refusal.{Refusal}
 use Rattle.refusal.specs.Refusal.{quantity_number, number_of, place_of, no_place}
-use Rattle.model.specs.declared.Finiteness.TheVariants.{Finite, NonFinite}
 use Rattle.model.specs.declared.State.{State}
-use Rattle.model.specs.Step.{step, finiteness}
+use Rattle.model.specs.Step.{step, finiteness, finite_state}
 use Rattle.model.specs.TimeGrid.{last_step, contains}
 use Rattle.model.specs.Walk.{state_after, LowestSpot, Sound}
 use Rattle.walks.specs.declared.Observed.{Observed}
@@ -19,9 +20,7 @@ use Rattle.walks.specs.declared.Observed.TheVariants.{Spot, VixSquared}
 use Rattle.walks.specs.Batch.{Batch, walk_of}
 use Rattle.estimates.specs.declared.Payoff.{Payoff}
 use Rattle.batch.specs.declared.Report.{Report}
-use Rattle.batch.specs.declared.Priced.{Priced}
-use Rattle.batch.specs.declared.Priced.TheVariants.{Price, Refused}
-use Rattle.batch.specs.Report.{reported, report_with}
+use Rattle.batch.specs.Report.{Priced, reported, report_with}
 
 -- ---- the answer as it crosses the edge
 
@@ -69,8 +68,8 @@ priced_answer observed r =
 
 -- Rules 17.1 and 17.2: of each case of a price
 abbrev pub answer_of : Batch → Priced → BatchAnswer
-answer_of b (Price report) = priced_answer b.observed report
-answer_of b (Refused refusal steps) = refused_answer b.observed steps refusal
+answer_of b (Ok report) = priced_answer b.observed report
+answer_of b (Err r) = refused_answer b.observed r.steps r.refusal
 
 -- ---- the plain walks
 
@@ -85,7 +84,7 @@ state_of b p k = state_after (walk_of b p) k
 
 -- Rule 18.7: spot, z and variance of path p are finite after step k
 abbrev pub FiniteAt : Batch → ℕ → ℕ → Type 0
-FiniteAt b p k = finiteness (state_of b p k) ≡ Finite
+FiniteAt b p k = finiteness (state_of b p k) ≡ finite_state
 
 -- Rule 18.5: step k of path p goes from the state before it, with the path's draw k and with dt and
 -- sqrt_dt of the only segment that contains it
@@ -138,7 +137,7 @@ FiniteBefore b p = (r k : ℕ) → 1 ≤ r → r < p → OneTo b.simulation.grid
 pub record FirstFailure (b : Batch) (p k : ℕ) (q : Quantity) : Type 0 where
   pub is_path : OneTo b.paths p
   pub is_step : OneTo b.simulation.grid.total k
-  pub fails : finiteness (state_of b p k) ≡ NonFinite q
+  pub fails : finiteness (state_of b p k) ≡ Err q
   pub first_step : (j : ℕ) → 1 ≤ j → j < k → FiniteAt b p j
   pub first_path : FiniteBefore b p
 

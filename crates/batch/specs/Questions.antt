@@ -1,9 +1,11 @@
 -- What is asked of a batch before 22, past its model: of its strike, its barrier, its paths, its
 -- draws and its table. Definitions only.
-use Rattle.std.specs.Prelude.{Bool, true, false, not, ◌&&◌, ◌||◌, List, [], ◌∷◌, ◌++◌, ℕ, ◌*◌, ◌%◌, eqb, leb}
+use Rattle.std.specs.Prelude.{Bool, true, false, not, ◌&&◌, ◌||◌, List, [], ◌∷◌, ◌++◌}
+use Rattle.std.specs.Prelude.{ℕ, ◌*◌, ◌%◌, eqb, leb}
 use Rattle.decimal.specs.declared.Decimal.{Decimal}
 use Rattle.decimal.specs.Decimal.{is_negative, is_positive, value}
-use Rattle.refusal.specs.Questions.{Question, asked}
+use Rattle.refusal.specs.declared.Refusal.TheVariants.{Strike, Barrier, Paths, Draws, Lengths}
+use Rattle.refusal.specs.Questions.{Question, ask}
 use Rattle.model.specs.declared.TimeGrid.{TimeGrid}
 use Rattle.model.specs.Questions.{scale_question}
 use Rattle.walks.specs.Batch.{draws_needed}
@@ -14,11 +16,11 @@ use Rattle.estimates.specs.declared.Payoff.TheVariants.{Vanilla, DownAndOut}
 
 -- Rule 14.9: 18, a strike that is not negative, then 1 of it
 abbrev pub strike_questions : Decimal → List Question
-strike_questions strike = asked 18 (not (is_negative strike)) ∷ scale_question strike ∷ []
+strike_questions strike = ask Strike (not (is_negative strike)) ∷ scale_question strike ∷ []
 
 -- Rule 14.9: 27, a barrier above zero, then 1 of it
 abbrev pub barrier_questions : Decimal → List Question
-barrier_questions barrier = asked 27 (is_positive barrier) ∷ scale_question barrier ∷ []
+barrier_questions barrier = ask Barrier (is_positive barrier) ∷ scale_question barrier ∷ []
 
 -- Rule 10.5: a flag that is set says put
 abbrev pub style_of : Bool → Style
@@ -41,13 +43,13 @@ paths_pass mirrored paths = leb 2 paths && leb paths 65536 && (not mirrored || e
 unfoldable pub path_questions : TimeGrid → Bool → ℕ → ℕ → List Question
 unfolding paths_pass
 path_questions grid mirrored paths drawn =
-    asked 19 (paths_pass mirrored paths)
-    ∷ asked 20 (eqb drawn (draws_needed mirrored paths grid.total))
+    ask Paths (paths_pass mirrored paths)
+    ∷ ask Draws (eqb drawn (draws_needed mirrored paths grid.total))
     ∷ []
 
 -- Rule 14.10: 21, a row a path and a column a segment
 abbrev pub table_questions : TimeGrid → ℕ → ℕ → List Question
-table_questions grid paths lent = asked 21 (eqb lent (paths * grid.count)) ∷ []
+table_questions grid paths lent = ask Lengths (eqb lent (paths * grid.count)) ∷ []
 
 -- Rule 14.10: with so many draws and a table of so many doubles lent
 abbrev pub batch_questions : TimeGrid → Bool → ℕ → ℕ → ℕ → List Question

@@ -2,7 +2,7 @@
 #![tactic(auto)]
 
 use estimates::Estimates;
-use refusal::Refusal;
+use paths::Refused;
 
 pub mod pricing;
 pub mod questions;
@@ -18,8 +18,4 @@ pub struct Report {
 
 // What pricing a batch answers: its report, or the first question that got a No, with the steps
 // taken by then.
-#[derive(Clone, Copy)]
-pub enum Priced {
-    Price(Report),
-    Refused { refusal: Refusal, steps: u64 },
-}
+pub type Priced = Result<Report, Refused>;

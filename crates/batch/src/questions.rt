@@ -12,97 +12,83 @@ use decimal::Decimal;
 use estimates::{Payoff, Style};
 use model::TimeGrid;
 use refusal::{Outcome, Refusal};
-use walks::Batch;
 
+#[tactic(auto, unfolding(refusal::specs::Questions::first_no))]
 pub fn strike_questions(strike: Decimal) -> Outcome
     ensures { result ≡ first_no (strike_questions strike) }
 {
-    let asked = refusal::ask(
-        Outcome::Passed,
-        Refusal::Plain(18),
-        !decimal::is_negative(strike),
-    );
-    refusal::ask(asked, Refusal::Plain(1), decimal::scale_fits(strike))
+    refusal::ensure(!strike.is_negative(), Refusal::Strike)?;
+    refusal::ensure(strike.scale_fits(), Refusal::Scale)
 }
 
 // Asked of a down-and-out put, after those of its strike.
+#[tactic(auto, unfolding(refusal::specs::Questions::first_no))]
 pub fn barrier_questions(barrier: Decimal) -> Outcome
     ensures { result ≡ first_no (barrier_questions barrier) }
 {
-    let asked = refusal::ask(
-        Outcome::Passed,
-        Refusal::Plain(27),
-        decimal::is_positive(barrier),
-    );
-    refusal::ask(asked, Refusal::Plain(1), decimal::scale_fits(barrier))
+    refusal::ensure(barrier.is_positive(), Refusal::Barrier)?;
+    refusal::ensure(barrier.scale_fits(), Refusal::Scale)
 }
 
+// `put` is a flag, as C hands it.
 pub fn vanilla_payoff(put: bool, strike: Decimal) -> Payoff
     ensures { result ≡ vanilla_at put strike }
 {
-    let converted = decimal::double_of(strike);
-    if put {
-        return Payoff::Vanilla {
-            style: Style::Put,
-            strike: converted,
-        };
-    }
-    Payoff::Vanilla {
-        style: Style::Call,
-        strike: converted,
-    }
+    let style = if put { Style::Put } else { Style::Call };
+    let strike = strike.value();
+    Payoff::Vanilla { style, strike }
 }
 
 pub fn down_and_out_payoff(strike: Decimal, barrier: Decimal) -> Payoff
     ensures { result ≡ down_and_out_at strike barrier }
 {
     Payoff::DownAndOut {
-        strike: decimal::double_of(strike),
-        barrier: decimal::double_of(barrier),
+        strike: strike.value(),
+        barrier: barrier.value(),
     }
 }
 
 // Question 19.
+#[tactic(auto, unfolding(crate::specs::Questions::paths_pass))]
 fn paths_pass(mirrored: bool, paths: usize) -> bool
     ensures { result ≡ paths_pass mirrored paths }
 {
     2 <= paths && paths <= 65536 && (!mirrored || paths % 2 == 0)
 }
 
+#[tactic(auto, using(crate::proofs::Sizes::product_small))]
 fn draws_needed(mirrored: bool, paths: usize, total: usize) -> usize
     requires { (paths ≤ 65536) × (total ≤ 4096) }
     ensures { result ≡ draws_needed mirrored paths total }
 {
-    if mirrored {
-        return paths / 2 * total;
-    }
-    paths * total
+    let sources = if mirrored { paths / 2 } else { paths };
+    sources * total
 }
 
 // Questions 19 and 20. No product is taken before the paths are known to be few, so none wraps.
+#[tactic(auto, unfolding(refusal::specs::Questions::first_no, crate::specs::Questions::path_questions))]
 fn path_questions(grid: TimeGrid, mirrored: bool, paths: usize, drawn: usize) -> Outcome
     requires { grid.total ≤ 4096 }
     ensures { result ≡ first_no (path_questions grid mirrored paths drawn) }
 {
-    if !paths_pass(mirrored, paths) {
-        return Outcome::Refused(Refusal::Plain(19));
-    }
+    refusal::ensure(paths_pass(mirrored, paths), Refusal::Paths)?;
     let needed = draws_needed(mirrored, paths, grid.total);
-    refusal::ask(Outcome::Passed, Refusal::Plain(20), drawn == needed)
+    refusal::ensure(drawn == needed, Refusal::Draws)
 }
 
 // Questions 19 to 21, with so many draws and a table of so many doubles lent.
-pub fn batch_questions(batch: Batch, drawn: usize, lent: usize) -> Outcome
-    requires { Laid batch.simulation.grid }
-    ensures { result ≡ first_no (batch_questions batch.simulation.grid
-        batch.mirrored batch.paths drawn lent) }
+#[tactic(auto, using(refusal::proofs::Laws::append), unfolding(refusal::specs::Questions::first_no))]
+pub fn batch_questions(
+    grid: TimeGrid,
+    mirrored: bool,
+    paths: usize,
+    drawn: usize,
+    lent: usize,
+) -> Outcome
+    requires { Laid grid }
+    ensures { result ≡ first_no (batch_questions grid mirrored paths drawn lent) }
 {
-    let simulation = batch.simulation;
-    let grid = simulation.grid;
-    let asked = path_questions(grid, batch.mirrored, batch.paths, drawn);
-    if let Outcome::Refused(refusal) = asked {
-        return Outcome::Refused(refusal);
-    }
-    let rows = batch.paths * grid.count;
-    refusal::ask(Outcome::Passed, Refusal::Plain(21), lent == rows)
+    path_questions(grid, mirrored, paths, drawn)?;
+    let rows = paths * grid.count;
+    refusal::ensure(lent == rows, Refusal::Lengths)
 }

@@ -9,11 +9,13 @@ use lib.Ieee.{Float, fin, binary64, up, down, fits, round, le}
 use lib.Ieee.Fits.{round-fits, cond-fits}
 use borrow.Author.Tests.{not-true, leb-true, le-leb, lt-leb}
 use Rattle.decimal.specs.declared.Decimal.{Decimal}
-use Rattle.decimal.specs.declared.Converted.TheVariants.{Value, ScaleTooLarge}
+use Rattle.std.specs.Prelude.{Some, None}
 use Rattle.decimal.specs.Decimal.{coefficient, is_zero, is_negative, is_positive, scale_fits, nearest_double, value, convert, ConvertsToNearest}
 use Rattle.numeric.specs.Correct.{FractionIsNearest}
 use Rattle.numeric.specs.Double.{plus_zero}
+use Rattle.std.proofs.Common.{arith}
 use Rattle.numeric.proofs.Above.{positive_above}
+use Rattle.numeric.proofs.Doubles.{zero_is}
 use Rattle.decimal.proofs.Zero.{nonzero, negative_is, positive_is}
 use Rattle.decimal.proofs.Bounds.{x_positive, within, is_nearest_lem}
 
@@ -32,13 +34,13 @@ pub refused_value_lem : (d : Decimal) → is_zero d ≡ false → 28 < d.scale �
 refused_value_lem d e h = by_tests d false false e (lt-leb d.scale 28 h)
 
 -- ---- the cases of `convert`
-pub converted_value : (d : Decimal) → scale_fits d ≡ true → convert d ≡ Value (value d)
+pub converted_value : (d : Decimal) → scale_fits d ≡ true → convert d ≡ Some (value d)
 unfolding convert
-converted_value d e = ap (λ (b : Bool). cond b (Value (value d)) ScaleTooLarge) e
+converted_value d e = ap (λ (b : Bool). cond b (Some (value d)) None) e
 
-pub converted_refused : (d : Decimal) → scale_fits d ≡ false → convert d ≡ ScaleTooLarge
+pub converted_refused : (d : Decimal) → scale_fits d ≡ false → convert d ≡ None
 unfolding convert
-converted_refused d e = ap (λ (b : Bool). cond b (Value (value d)) ScaleTooLarge) e
+converted_refused d e = ap (λ (b : Bool). cond b (Some (value d)) None) e
 
 -- ---- finite, of the Decimal's sign, and at most 2 ^ 96 in size
 pub record Converts (d : Decimal) : Type 0 where
@@ -106,3 +108,13 @@ value_fits d =
   where
     zero : T (fits binary64 plus_zero)
     zero = unfold fits in tt
+
+-- the law of the conversion, of what equals the value
+pub value_is_nearest : (d : Decimal) (v : Float) → d.high < 2 ^ 32 → d.low < 2 ^ 64 → v ≡ value d → ConvertsToNearest d v
+value_is_nearest d v high low e = subst (ConvertsToNearest d) (sym e) (converts_to_nearest d (omega arith))
+
+-- ---- what the methods are proved by
+
+pub ruleset value_laws = (zero_is, zero_value, nearest_value, refused_value_lem, nonzero)
+
+pub ruleset conversion_laws = (converted_value, converted_refused, value_is_nearest)

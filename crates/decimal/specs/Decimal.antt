@@ -1,15 +1,14 @@
 -- A Decimal: its exact value, its comparison with zero, whether its scale fits, and the double that
 -- it converts to. `round` is lib.Ieee's account of IEEE 754: the value of the format that is
 -- nearest to a fraction, at a tie the one with the even significand. Definitions only.
-use Rattle.std.specs.Prelude.{◌≡◌, Bool, true, false, cond, ◌||◌, ℕ, ◌+◌, ◌*◌, ◌^◌, eqb, leb, ℤ, pos, neg_ℤ, Float}
+use Rattle.std.specs.Prelude.{◌≡◌, Bool, true, false, cond, ◌||◌, ℕ, ◌+◌, ◌*◌, ◌^◌, eqb, leb}
+use Rattle.std.specs.Prelude.{ℤ, pos, neg_ℤ, Float, Option, Some, None}
 use Rattle.std.specs.Int.Signed.{lt_z}
 use Rattle.std.specs.Float.{binary64}
 use Rattle.std.specs.Float.Ieee.{round}
 use Rattle.numeric.specs.Correct.{FractionIsNearest}
 use Rattle.numeric.specs.Double.{plus_zero}
 use Rattle.decimal.specs.declared.Decimal.{Decimal}
-use Rattle.decimal.specs.declared.Converted.{Converted}
-use Rattle.decimal.specs.declared.Converted.TheVariants.{Value, ScaleTooLarge}
 
 -- Rule 3.1: the coefficient, of 96 bits
 abbrev pub coefficient : Decimal → ℕ
@@ -47,10 +46,10 @@ unfoldable pub value : Decimal → Float
 unfolding is_zero round
 value d = cond (is_zero d) plus_zero (cond (leb d.scale 28) (nearest_double d) plus_zero)
 
--- Rule 3.5: conversion answers that double, or refusal 1 where the Decimal does not fit
-unfoldable pub convert : Decimal → Converted
+-- Rule 3.5: conversion answers that double, or none where the Decimal does not fit: refusal 1
+unfoldable pub convert : Decimal → Option Float
 unfolding scale_fits value
-convert d = cond (scale_fits d) (Value (value d)) ScaleTooLarge
+convert d = cond (scale_fits d) (Some (value d)) None
 
 -- ---- the law of the conversion, said without its steps
 

@@ -1,27 +1,35 @@
-// Numbers of two words, hi * 2^64 + lo, moved left and divided by powers of five.
-ghost use Rattle.std.specs.Prelude.{◌≡◌, ◌+◌, ◌^◌, ◌<◌, min};
-ghost use Rattle.decimal.specs.Inner.Steps.{wide, IsAligned, IsQuotient};
+// Numbers of two words, moved left and divided by powers of five. A u128 would hold them, but its
+// division is a call into the C runtime: with it a conversion took 22 ns, and 14 as it is here.
+ghost use Rattle.std.specs.Prelude.{◌≡◌, ◌+◌, ◌^◌, ◌<◌};
+ghost use Rattle.decimal.specs.Inner.Steps.{wide, number, IsAligned, IsQuotient};
 ghost use Rattle.decimal.specs.Inner.Steps.{IsDivided, IsDividedOnce};
 
+// high * 2^64 + low.
+#[derive(Clone, Copy)]
+pub(crate) struct Wide {
+    pub high: u64,
+    pub low: u64,
+}
+
+// A number with bit 127 as its highest, and how far it was moved left.
 #[derive(Clone, Copy)]
 pub(crate) struct Aligned {
-    pub hi: u64,
-    pub lo: u64,
+    pub number: Wide,
     pub shift: u32,
 }
 
+// The whole part of a quotient, and whether the division left something over.
+#[derive(Clone, Copy)]
+pub(crate) struct Quotient {
+    pub whole: Wide,
+    pub inexact: bool,
+}
+
+// One word of a quotient, and what is left for the words after it.
 #[derive(Clone, Copy)]
 struct Divided {
     quotient: u64,
     rest: u64,
-}
-
-// `rest` is 0 where the division was exact, else 1.
-#[derive(Clone, Copy)]
-pub(crate) struct Quotient {
-    pub hi: u64,
-    pub lo: u64,
-    pub rest: u64,
 }
 
 const DIGIT: u64 = 0x1_0000_0000;
@@ -29,36 +37,67 @@ const DIGIT: u64 = 0x1_0000_0000;
 // The largest power of five below 2^32.
 const FIVE_TO_13: u64 = 1220703125;
 
-// 1 where one of the two is above 0, else 0.
-pub(crate) fn one_if_any(a: u64, b: u64) -> u64
-    ensures { result ≡ min 1 (a + b) }
-{
-    if a == 0 {
-        if b == 0 {
-            return 0;
+impl Wide {
+    // The number moved left until its highest bit is bit 127.
+    pub(crate) fn aligned(self) -> Aligned
+        requires { 0 < number self }
+        ensures { IsAligned (number self) result }
+    {
+        if self.high == 0 {
+            let zeros = self.low.leading_zeros();
+            let number = Wide {
+                high: self.low << zeros,
+                low: 0,
+            };
+            return Aligned {
+                number,
+                shift: 64 + zeros,
+            };
+        }
+        let zeros = self.high.leading_zeros();
+        let number = Wide {
+            high: (self.high << zeros) + (self.low >> 1 >> (63 - zeros)),
+            low: self.low << zeros,
+        };
+        Aligned {
+            number,
+            shift: zeros,
         }
     }
-    1
+
+    // The number by 5^scale, which may be above a word: in parts below 2^32, and by 5^13 as long as
+    // that goes, since a division by a constant compiles to a multiplication.
+    pub(crate) fn by_fives(self, scale: u8) -> Quotient
+        ensures { IsQuotient (number self) (5 ^ scale) result }
+    {
+        let mut q = Quotient {
+            whole: self,
+            inexact: false,
+        };
+        let mut left = scale;
+        // By hand: a `for` over 0..scale / 13 makes a conversion slower, 10.8 ns for 10.0.
+        while 13 <= left {
+            q = q.divided(FIVE_TO_13);
+            left -= 13;
+        }
+        q.divided(five_to(left))
+    }
 }
 
-// The number moved left until its highest bit is bit 127.
-pub(crate) fn align(hi: u64, lo: u64) -> Aligned
-    requires { 0 < wide hi lo }
-    ensures { IsAligned (wide hi lo) result }
-{
-    if hi == 0 {
-        let zeros = u64::leading_zeros(lo);
-        return Aligned {
-            hi: lo << zeros,
-            lo: 0,
-            shift: 64 + zeros,
-        };
-    }
-    let zeros = u64::leading_zeros(hi);
-    Aligned {
-        hi: (hi << zeros) + (lo >> 1 >> (63 - zeros)),
-        lo: lo << zeros,
-        shift: zeros,
+impl Quotient {
+    // One more factor divided out of it.
+    fn divided(self, by: u64) -> Quotient
+        requires { (0 < by) × (by < 2 ^ 32) }
+        ensures { IsDividedOnce self by result }
+    {
+        let lower = divide_word(self.whole.high % by, self.whole.low, by);
+        Quotient {
+            whole: Wide {
+                high: self.whole.high / by,
+                low: lower.quotient,
+            },
+            inexact: self.inexact || lower.rest != 0,
+        }
     }
 }
 
@@ -75,7 +114,9 @@ fn divide_word(rest: u64, word: u64, by: u64) -> Divided
     }
 }
 
-// 5^0 to 5^12. A match, since a constant table would be copied to the stack at each call.
+// 5^0 to 5^12. A match, since a constant table would be copied to the stack at each call, and the
+// library's 5u64.pow(power) makes a conversion slower, 20 ns for 16.
+#[tactic(auto, using(crate::proofs::Fives::same_power))]
 fn five_to(power: u8) -> u64
     requires { power < 13 }
     ensures { result ≡ 5 ^ power }
@@ -95,35 +136,4 @@ fn five_to(power: u8) -> u64
         11 => 48828125,
         _ => 244140625,
     }
-}
-
-// One more factor divided out of a quotient.
-fn divide_once(q: Quotient, by: u64) -> Quotient
-    requires { (0 < by) × (by < 2 ^ 32) }
-    ensures { IsDividedOnce q by result }
-{
-    let lower = divide_word(q.hi % by, q.lo, by);
-    Quotient {
-        hi: q.hi / by,
-        lo: lower.quotient,
-        rest: one_if_any(lower.rest, q.rest),
-    }
-}
-
-// The number by 5^scale, which may be above a word: in parts below 2^32, and by 5^13 as long as
-// that goes, since a division by a constant compiles to a multiplication.
-pub(crate) fn divide_by_fives(high: u64, low: u64, scale: u8) -> Quotient
-    ensures { IsQuotient (wide high low) (5 ^ scale) result }
-{
-    let mut q = Quotient {
-        hi: high,
-        lo: low,
-        rest: 0,
-    };
-    let mut left = scale;
-    while 13 <= left {
-        q = divide_once(q, FIVE_TO_13);
-        left -= 13;
-    }
-    divide_once(q, five_to(left))
 }

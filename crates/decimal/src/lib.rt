@@ -4,13 +4,12 @@
 mod divide;
 mod round;
 
-ghost use Rattle.std.specs.Prelude.{◌≡◌, ◌^◌, ◌≤◌, ◌<◌};
-ghost use Rattle.std.specs.Float.{binary64};
-ghost use Rattle.std.specs.Float.Ieee.{round};
+ghost use Rattle.std.specs.Prelude.{◌≡◌, ◌≤◌, ◌<◌};
 ghost use Rattle.decimal.specs.Decimal.{is_zero, is_negative, is_positive, scale_fits};
-ghost use Rattle.decimal.specs.Decimal.{value, convert};
+ghost use Rattle.decimal.specs.Decimal.{coefficient, nearest_double, value, convert};
 ghost use Rattle.decimal.specs.Inner.Answers.{AnswersNearest};
-ghost use Rattle.decimal.specs.Inner.Steps.{wide};
+
+use divide::Wide;
 
 // ±(high * 2^64 + low) / 10^scale. Every value of the struct is a Decimal.
 #[repr(C)]
@@ -22,71 +21,79 @@ pub struct Decimal {
     pub negative: bool,
 }
 
-#[derive(Clone, Copy)]
-pub enum Converted {
-    Value(f64),
-    ScaleTooLarge,
-}
-
 const LARGEST_SCALE: u8 = 28;
 
-pub fn is_zero(d: Decimal) -> bool
-    ensures { result ≡ is_zero d }
-{
-    d.high == 0 && d.low == 0
-}
-
-// A negative zero is zero.
-#[tactic(auto, using(crate::proofs::Zero::negative_is))]
-pub fn is_negative(d: Decimal) -> bool
-    ensures { result ≡ is_negative d }
-{
-    d.negative && !is_zero(d)
-}
-
-pub fn is_positive(d: Decimal) -> bool
-    ensures { result ≡ is_positive d }
-{
-    !d.negative && !is_zero(d)
-}
-
-pub fn scale_fits(d: Decimal) -> bool
-    ensures { result ≡ scale_fits d }
-{
-    is_zero(d) || d.scale <= LARGEST_SCALE
-}
-
-// The highest word of the quotient counts 2^64 and drops 11 bits, and the smallest double is
-// 2^-1074: 64 + 11 + 1074 = 1149.
-fn nonzero_to_f64(negative: bool, scale: u8, high: u64, low: u64) -> f64
-    requires { (0 < wide high low) × (scale ≤ 28) }
-    ensures { result ≡ round binary64 negative (wide high low) (10 ^ scale) }
-{
-    let number = divide::align(high, low);
-    let quotient = divide::divide_by_fives(number.hi, number.lo, scale);
-    let top = divide::align(quotient.hi, quotient.lo);
-    let significand = round::rounded(top.hi, divide::one_if_any(top.lo, quotient.rest));
-    let exponent = 1149 - number.shift - top.shift - (scale as u32);
-    round::assembled(negative, significand, exponent as u64)
-}
-
-// The double of a Decimal whose scale fits, and +0.0 for any other: callers ask `scale_fits` first.
-pub fn double_of(d: Decimal) -> f64
-    ensures { result ≡ value d }
-{
-    if is_zero(d) || LARGEST_SCALE < d.scale {
-        return 0.0;
+impl Decimal {
+    #[tactic(auto, using(crate::proofs::Zero::zero_by_words))]
+    pub fn is_zero(self) -> bool
+        ensures { result ≡ is_zero self }
+    {
+        self.high == 0 && self.low == 0
     }
-    nonzero_to_f64(d.negative, d.scale, d.high as u64, d.low)
-}
 
-pub fn decimal_to_f64(d: Decimal) -> Converted
-    ensures answer { result ≡ convert d }
-    ensures nearest { AnswersNearest d result }
-{
-    if scale_fits(d) {
-        Converted::Value(double_of(d))
-    } else {
-        Converted::ScaleTooLarge
+    // A negative zero is zero.
+    #[tactic(auto, using(crate::proofs::Zero::negative_is))]
+    pub fn is_negative(self) -> bool
+        ensures { result ≡ is_negative self }
+    {
+        self.negative && !self.is_zero()
+    }
+
+    #[tactic(auto, using(crate::proofs::Zero::positive_is))]
+    pub fn is_positive(self) -> bool
+        ensures { result ≡ is_positive self }
+    {
+        !self.negative && !self.is_zero()
+    }
+
+    #[tactic(auto, unfolding(crate::specs::Decimal::scale_fits))]
+    pub fn scale_fits(self) -> bool
+        ensures { result ≡ scale_fits self }
+    {
+        self.is_zero() || self.scale <= LARGEST_SCALE
+    }
+
+    // The double nearest to it. The highest word of the quotient counts 2^64 and drops 11 bits, and
+    // the smallest double is 2^-1074: 64 + 11 + 1074 = 1149.
+    fn nearest_double(self) -> f64
+        requires { (0 < coefficient self) × (self.scale ≤ 28) }
+        ensures { result ≡ nearest_double self }
+    {
+        let coefficient = Wide {
+            high: self.high as u64,
+            low: self.low,
+        };
+        let first = coefficient.aligned();
+        let quotient = first.number.by_fives(self.scale);
+        let top = quotient.whole.aligned();
+        let inexact = top.number.low != 0 || quotient.inexact;
+        let significand = round::rounded(top.number.high, inexact);
+        let exponent = 1149 - first.shift - top.shift - self.scale as u32;
+        round::assembled(self.negative, significand, exponent as u64)
+    }
+
+    // The double of a Decimal whose scale fits, and +0.0 for any other: callers ask `scale_fits`
+    // first. (No Option: the definition is total, and `to_f64` is the one that tells.)
+    #[tactic(auto, using(crate::proofs::Value::value_laws))]
+    pub fn value(self) -> f64
+        ensures { result ≡ value self }
+    {
+        if self.is_zero() || LARGEST_SCALE < self.scale {
+            return 0.0;
+        }
+        self.nearest_double()
+    }
+
+    // Its double, and none where its scale is too large.
+    #[tactic(auto, using(crate::proofs::Value::conversion_laws))]
+    pub fn to_f64(self) -> Option<f64>
+        ensures answer { result ≡ convert self }
+        ensures nearest { AnswersNearest self result }
+    {
+        if self.scale_fits() {
+            Some(self.value())
+        } else {
+            None
+        }
     }
 }

@@ -1,9 +1,11 @@
 -- Welford's moments of the paths of a batch, and its estimates. Definitions only.
-use Rattle.std.specs.Prelude.{Bool, true, false, ℕ, zero, suc, Float}
+use Rattle.std.specs.Prelude.{Bool, true, false, ℕ, zero, suc, Float, Option, Some, None}
 use Rattle.std.specs.Float.{binary64}
 use Rattle.std.specs.Float.Ieee.{add, sub, mul, div}
 use Rattle.numeric.specs.Double.{plus, minus, times, over, one, plus_zero, finite}
 use Rattle.numeric.specs.Root.{root}
+use Rattle.refusal.specs.declared.Reported.{Reported}
+use Rattle.refusal.specs.declared.Reported.TheVariants as reported
 use Rattle.estimates.specs.declared.Payoff.{Payoff}
 use Rattle.estimates.specs.declared.Moments.{Moments}
 use Rattle.estimates.specs.declared.Tally.{Tally}
@@ -62,16 +64,16 @@ unfolding estimate_of
 estimates_from t =
     record { payoff = estimate_of t.payoffs; underlying = estimate_of t.underlyings }
 
--- Rule 14.12: the first of the four estimates that is not finite, or 0
-abbrev pub first_of_four : Bool → Bool → Bool → Bool → ℕ
-first_of_four false b c d = 1
-first_of_four true false c d = 2
-first_of_four true true false d = 3
-first_of_four true true true false = 4
-first_of_four true true true true = 0
+-- Rule 14.12: the first of the four estimates that is not finite
+abbrev pub first_of_four : Bool → Bool → Bool → Bool → Option Reported
+first_of_four false b c d = Some reported.Payoff
+first_of_four true false c d = Some reported.PayoffError
+first_of_four true true false d = Some reported.Underlying
+first_of_four true true true false = Some reported.UnderlyingError
+first_of_four true true true true = None
 
 -- Rule 14.12: in the order of rule 10.6
-unfoldable pub not_finite : Estimates → ℕ
+unfoldable pub not_finite : Estimates → Option Reported
 not_finite e =
     first_of_four (finite e.payoff.mean) (finite e.payoff.error)
     (finite e.underlying.mean) (finite e.underlying.error)

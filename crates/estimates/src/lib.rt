@@ -10,7 +10,8 @@ pub enum Style {
     Put,
 }
 
-// A payoff, with strike and barrier as converted. Only a put has a barrier.
+// A payoff, with strike and barrier as converted. Only a put has a barrier. (An enum, and no
+// closure: the form was asked for, docs/DECISIONS.md.)
 #[derive(Clone, Copy)]
 pub enum Payoff {
     Future,

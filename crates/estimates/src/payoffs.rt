@@ -5,27 +5,34 @@ ghost use Rattle.estimates.specs.Payoff.{vanilla_payoff, payoff_of, underlying_o
 use crate::{Payoff, Style};
 use walks::Observed;
 
-pub fn vanilla_payoff(style: Style, strike: f64, x: f64) -> f64
-    ensures { result ≡ vanilla_payoff style strike x }
-{
-    match style {
-        Style::Call => numeric::positive_part(x - strike),
-        Style::Put => numeric::positive_part(strike - x),
+impl Style {
+    // What a vanilla pays on the spot or the index.
+    #[tactic(auto, unfolding(crate::specs::Payoff::vanilla_payoff))]
+    pub fn paid(self, strike: f64, x: f64) -> f64
+        ensures { result ≡ vanilla_payoff self strike x }
+    {
+        match self {
+            Style::Call => numeric::positive_part(x - strike),
+            Style::Put => numeric::positive_part(strike - x),
+        }
     }
 }
 
-// What a payoff pays on the spot or the index, where this is the path's lowest spot.
-pub fn payoff_of(payoff: Payoff, x: f64, lowest: f64) -> f64
-    ensures { result ≡ payoff_of payoff x lowest }
-{
-    match payoff {
-        Payoff::Future => x,
-        Payoff::Vanilla { style, strike } => vanilla_payoff(style, strike, x),
-        Payoff::DownAndOut { strike, barrier } => {
-            if lowest <= barrier {
-                0.0
-            } else {
-                vanilla_payoff(Style::Put, strike, x)
+impl Payoff {
+    // What is paid on the spot or the index, where this is the path's lowest spot.
+    #[tactic(auto, unfolding(crate::specs::Payoff::payoff_of))]
+    pub fn paid(self, x: f64, lowest: f64) -> f64
+        ensures { result ≡ payoff_of self x lowest }
+    {
+        match self {
+            Payoff::Future => x,
+            Payoff::Vanilla { style, strike } => style.paid(strike, x),
+            Payoff::DownAndOut { strike, barrier } => {
+                if lowest <= barrier {
+                    0.0
+                } else {
+                    Style::Put.paid(strike, x)
+                }
             }
         }
     }

@@ -3,23 +3,8 @@ ghost use Rattle.std.specs.Prelude.{◌≡◌};
 ghost use Rattle.estimates.specs.Moments.{no_moments, with_value, estimate_of, not_finite};
 ghost use Rattle.estimates.specs.Moments.{no_paths, with_path, estimates_from};
 
-use crate::{Estimates, MeanAndError, Moments, Payoff, Tally, payoffs};
-
-// The moments of these numbers, with one value more.
-fn with_value(count: f64, mean: f64, squared_deviations: f64, value: f64) -> Moments
-    ensures { result ≡ with_value
-        (record { count = count; mean = mean; squared_deviations = squared_deviations })
-        value }
-{
-    let new_count = count + 1.0;
-    let deviation = value - mean;
-    let new_mean = mean + deviation / new_count;
-    Moments {
-        count: new_count,
-        mean: new_mean,
-        squared_deviations: squared_deviations + deviation * (value - new_mean),
-    }
-}
+use crate::{Estimates, MeanAndError, Moments, Payoff, Tally};
+use refusal::Reported;
 
 impl Moments {
     // No value yet.
@@ -33,11 +18,25 @@ impl Moments {
         }
     }
 
-    // Takes in one value more.
+    // These with one value more.
+    fn with_value(self, value: f64) -> Moments
+        ensures { result ≡ with_value self value }
+    {
+        let count = self.count + 1.0;
+        let deviation = value - self.mean;
+        let mean = self.mean + deviation / count;
+        Moments {
+            count,
+            mean,
+            squared_deviations: self.squared_deviations + deviation * (value - mean),
+        }
+    }
+
+    // Takes in one value more. (Lent by reference: the form was asked for.)
     pub fn add(&mut self, value: f64)
         ensures { self.new ≡ with_value self.old value }
     {
-        *self = with_value(self.count, self.mean, self.squared_deviations, value);
+        *self = self.with_value(value);
     }
 
     // The mean and its standard error.
@@ -52,66 +51,56 @@ impl Moments {
     }
 }
 
-// With one value more, added to a copy that is lent.
-pub fn added(m: Moments, value: f64) -> Moments
-    ensures { result ≡ with_value m value }
-{
-    let mut lent = m;
-    lent.add(value);
-    lent
-}
-
-// No path yet.
-pub fn no_paths() -> Tally
-    ensures { result ≡ no_paths }
-{
-    Tally {
-        payoffs: Moments::new(),
-        underlyings: Moments::new(),
+impl Tally {
+    // No path yet.
+    pub fn new() -> Tally
+        ensures { result ≡ no_paths }
+    {
+        Tally {
+            payoffs: Moments::new(),
+            underlyings: Moments::new(),
+        }
     }
-}
 
-// With one path more, which shows the payoff this spot or index and this lowest spot.
-pub fn with_path(tally: Tally, payoff: Payoff, underlying: f64, lowest: f64) -> Tally
-    ensures { result ≡ with_path payoff tally underlying lowest }
-{
-    Tally {
-        payoffs: added(
-            tally.payoffs,
-            payoffs::payoff_of(payoff, underlying, lowest),
-        ),
-        underlyings: added(tally.underlyings, underlying),
+    // With one path more, which shows the payoff this spot or index and this lowest spot.
+    #[tactic(auto, unfolding(crate::specs::Moments::with_path))]
+    pub fn with_path(mut self, payoff: Payoff, underlying: f64, lowest: f64) -> Tally
+        ensures { result ≡ with_path payoff self underlying lowest }
+    {
+        self.payoffs.add(payoff.paid(underlying, lowest));
+        self.underlyings.add(underlying);
+        self
     }
-}
 
-pub fn estimates(tally: Tally) -> Estimates
-    ensures { result ≡ estimates_from tally }
-{
-    let payoffs = tally.payoffs;
-    let underlyings = tally.underlyings;
-    Estimates {
-        payoff: payoffs.estimate(),
-        underlying: underlyings.estimate(),
+    #[tactic(auto, unfolding(crate::specs::Moments::estimates_from))]
+    pub fn estimates(self) -> Estimates
+        ensures { result ≡ estimates_from self }
+    {
+        Estimates {
+            payoff: self.payoffs.estimate(),
+            underlying: self.underlyings.estimate(),
+        }
     }
 }
 
-// The first of the four numbers that is not finite, counted from 1, or 0.
-pub fn first_not_finite(e: Estimates) -> u64
-    ensures { result ≡ not_finite e }
-{
-    let payoff = e.payoff;
-    let underlying = e.underlying;
-    if !numeric::is_finite(payoff.mean) {
-        return 1;
+impl Estimates {
+    // The first of the four doubles that is not finite, in reported order.
+    #[tactic(auto, unfolding(crate::specs::Moments::not_finite))]
+    pub fn first_not_finite(self) -> Option<Reported>
+        ensures { result ≡ not_finite self }
+    {
+        if !numeric::is_finite(self.payoff.mean) {
+            return Some(Reported::Payoff);
+        }
+        if !numeric::is_finite(self.payoff.error) {
+            return Some(Reported::PayoffError);
+        }
+        if !numeric::is_finite(self.underlying.mean) {
+            return Some(Reported::Underlying);
+        }
+        if !numeric::is_finite(self.underlying.error) {
+            return Some(Reported::UnderlyingError);
+        }
+        None
     }
-    if !numeric::is_finite(payoff.error) {
-        return 2;
-    }
-    if !numeric::is_finite(underlying.mean) {
-        return 3;
-    }
-    if !numeric::is_finite(underlying.error) {
-        return 4;
-    }
-    0
 }

@@ -26,7 +26,8 @@ least_from norm (suc many) at below enough =
     go (le norm (half_two_to at)) refl
     (λ above.
     least_from norm many (suc at) above
-    (subst (λ (k : ℕ). T (le norm (half_two_to k))) (add-suc at many ∙ sym (suc-add at many)) enough))
+    (subst (λ (k : ℕ). T (le norm (half_two_to k))) (add-suc at many ∙ sym (suc-add at many))
+    enough))
   where
     go :
         (b : Bool) → le norm (half_two_to at) ≡ b

@@ -1,5 +1,4 @@
 pub mod Norms
-pub mod Steps
 pub mod Series
 pub mod Powers
 pub mod Least

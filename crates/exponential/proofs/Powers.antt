@@ -32,7 +32,8 @@ doubles : tabulate 1024 (λ s. times (half_two_to s) two) ≡ tabulate 1024 (λ 
 unfolding tabulate mul
 doubles = refl
 
-halves : tabulate 1024 (λ s. times (two_to_minus s) half) ≡ tabulate 1024 (λ s. two_to_minus (s + 1))
+halves :
+    tabulate 1024 (λ s. times (two_to_minus s) half) ≡ tabulate 1024 (λ s. two_to_minus (s + 1))
 unfolding tabulate mul
 halves = refl
 
@@ -68,7 +69,8 @@ overflows : round binary64 false (2 * 2 ^ 1023) 1 ≡ inf false
 unfolding round
 overflows = refl
 
-pub not_over : (norm : Float) → finite (plus norm norm) ≡ true → lt (half_two_to 1024) norm ≡ true → ⊥
+pub not_over :
+    (norm : Float) → finite (plus norm norm) ≡ true → lt (half_two_to 1024) norm ≡ true → ⊥
 unfolding lt add
 not_over nan f l = true≢false (sym l)
 not_over (inf true) f l = true≢false (sym l)
@@ -141,16 +143,19 @@ module _ (norm : Float) (many s : ℕ) where
   turn = ap (λ (k : ℕ). first_enough k s norm) (add-one many)
 
   pub search_more :
-      le norm (half_two_to s) ≡ false → first_enough (many + 1) s norm ≡ first_enough many (s + 1) norm
+      le norm (half_two_to s) ≡ false → first_enough (many + 1) s norm
+      ≡ first_enough many (s + 1) norm
   search_more e =
       turn
-      ∙ ap (λ (b : Bool). elim b as (λ b. ℕ) [ true ↦ s | false ↦ first_enough many (suc s) norm ]) e
+      ∙ ap (λ (b : Bool). elim b as (λ b. ℕ) [ true ↦ s | false ↦ first_enough many (suc s) norm ])
+      e
       ∙ ap (λ (k : ℕ). first_enough many k norm) (sym (add-one s))
 
   pub search_found : le norm (half_two_to s) ≡ true → first_enough (many + 1) s norm ≡ s
   search_found e =
       turn
-      ∙ ap (λ (b : Bool). elim b as (λ b. ℕ) [ true ↦ s | false ↦ first_enough many (suc s) norm ]) e
+      ∙ ap (λ (b : Bool). elim b as (λ b. ℕ) [ true ↦ s | false ↦ first_enough many (suc s) norm ])
+      e
 
 -- where the search stands: it goes on at s, with 2^-s and 0.5 × 2^s
 pub record Searching (norm : Float) (s : ℕ) (factor bound : Float) : Type 0 where

@@ -1,8 +1,8 @@
 // The exponential of a square matrix of doubles, by scaling and squaring.
 #![tactic(auto)]
 
-ghost use Rattle.std.specs.Prelude.{◌≡◌, ◌*◌, ◌≤◌, length};
-ghost use Rattle.matrix.specs.Inner.Workspace.{matrix_at};
+ghost use Rattle.std.specs.Prelude.{◌≡◌};
+ghost use Rattle.matrix.specs.Inner.Workspace.{IsWorkspace, matrix_at};
 ghost use Rattle.exponential.specs.Norm.{norm1};
 ghost use Rattle.exponential.specs.Exponential.{exponential};
 ghost use Rattle.exponential.specs.Inner.Workspace.{exponentiated, Holds, Fewest};
@@ -13,18 +13,12 @@ mod taylor;
 
 use matrix::entries;
 
-// What the exponential of the matrix in a workspace gives: the number of squarings, or that the
-// norm, twice the norm or an entry of the exponential is not finite.
-#[derive(Clone, Copy)]
-pub enum Exponentiated {
-    Done(u32),
-    NotFinite,
-}
-
-// The exponential of the matrix that work begins with, in its place. The rest of work is free, and
-// what it held before is lost.
-pub fn exponential(dim: usize, work: &mut [f64]) -> Exponentiated
-    requires { (dim ≤ 67) × (length work.old ≡ 5 * (dim * dim)) }
+// The exponential of the matrix that work begins with, in its place. Answers the number of
+// squarings, or none where the norm, twice the norm or an entry of the exponential is not finite.
+// The rest of work is free, and what it held before is lost.
+#[tactic(auto, unfolding(crate::specs::Inner::Workspace::exponentiated))]
+pub fn exponential(dim: usize, work: &mut [f64]) -> Option<u32>
+    requires { IsWorkspace dim work.old }
     ensures answer { result ≡ exponentiated dim (matrix_at dim 0 work.old) }
     ensures result { Holds result (matrix_at dim 0 work.new)
         (exponential dim (matrix_at dim 0 work.old)) }
@@ -33,16 +27,12 @@ pub fn exponential(dim: usize, work: &mut [f64]) -> Exponentiated
     let size = dim * dim;
     let norm = norm::norm_1(dim, &work[..size]);
     if !numeric::is_finite(norm) {
-        return Exponentiated::NotFinite;
+        return None;
     }
     if !numeric::is_finite(norm + norm) {
-        return Exponentiated::NotFinite;
+        return None;
     }
     let scaling = scaling::of_norm(norm);
     taylor::exponential_by(dim, scaling, work);
-    if entries::is_finite(&work[..size]) {
-        Exponentiated::Done(scaling.squarings)
-    } else {
-        Exponentiated::NotFinite
-    }
+    entries::is_finite(&work[..size]).then_some(scaling.squarings)
 }

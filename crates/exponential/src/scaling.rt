@@ -8,10 +8,12 @@ ghost use Rattle.exponential.specs.Exponential.{squarings, two_to_minus, IsLeast
 pub struct Scaling {
     pub squarings: u32,
     pub factor: f64,
+    ghost halved: { factor ≡ two_to_minus squarings },
 }
 
 // The least s with norm ≤ 2^s / 2. Doubling the bound and halving the factor are exact: twice the
-// norm is finite, so that s is at most 1024, and 2^-1024 is a double still.
+// norm is finite, so that s is at most 1024, and 2^-1024 is a double still. How often the loop
+// turns is what is sought, so that no range has its turns.
 pub(crate) fn of_norm(norm: f64) -> Scaling
     requires { finite (plus norm norm) ≡ true }
     ensures squarings { result.squarings ≡ squarings norm }
@@ -23,8 +25,8 @@ pub(crate) fn of_norm(norm: f64) -> Scaling
     let mut bound = 0.5;
     while bound < norm {
         squarings += 1;
-        factor = factor * 0.5;
-        bound = bound * 2.0;
+        factor *= 0.5;
+        bound *= 2.0;
     }
     Scaling { squarings, factor }
 }

@@ -2,8 +2,9 @@
 -- that it is lent, for all inputs. Definitions only.
 use Rattle.std.specs.Prelude.{◌≡◌, Bool, ◌&&◌, List, [], ◌∷◌, ◌++◌, ℕ, ◌*◌, leb, eqb, length, Float}
 use Rattle.refusal.specs.declared.Refusal.{Refusal}
+use Rattle.refusal.specs.declared.Refusal.TheVariants.{Matrix, Workspace, Exponential}
 use Rattle.refusal.specs.Refusal.{number_of, no_place, place_of}
-use Rattle.refusal.specs.Questions.{Question, asked, first_no}
+use Rattle.refusal.specs.Questions.{Question, ask, first_no}
 use Rattle.refusal.specs.Questions.{once_asked, written_once_asked, KeptUnlessPassed}
 use Rattle.exponential.specs.Norm.{norm1}
 use Rattle.exponential.specs.Exponential.{squarings, IsLeast, exponential, exponential_finite}
@@ -28,19 +29,24 @@ matrix_inputs dimension input output workspace =
 unfoldable pub shape_right : ℕ → ℕ → ℕ → Bool
 shape_right n input output = leb 1 n && (leb n 67 && (eqb input (n * n) && eqb output (n * n)))
 
--- Rule 14.14: 26, then 16, a workspace that is 5 × dimension² long
-unfoldable pub size_questions : MatrixInputs → List Question
+-- Rule 14.14: 26, then 16, a workspace that is 5 × dimension² long, of matrices and a workspace of
+-- so many doubles
+unfoldable pub sizes_asked : ℕ → ℕ → ℕ → ℕ → List Question
 unfolding shape_right
-size_questions i =
-    asked 26 (shape_right i.dimension (length i.input) (length i.output))
-    ∷ asked 16 (eqb (length i.workspace) (5 * (i.dimension * i.dimension)))
+sizes_asked n input output workspace =
+    ask Matrix (shape_right n input output)
+    ∷ ask Workspace (eqb workspace (5 * (n * n)))
     ∷ []
+
+-- Rule 14.14: of what is given and lent
+abbrev pub size_questions : MatrixInputs → List Question
+size_questions i = sizes_asked i.dimension (length i.input) (length i.output) (length i.workspace)
 
 -- Rule 14.14: these, then 17, a finite exponential of the input
 unfoldable pub exponential_questions : MatrixInputs → List Question
-unfolding size_questions exponential_finite
+unfolding sizes_asked exponential_finite
 exponential_questions i =
-    size_questions i ++ (asked 17 (exponential_finite i.dimension i.input) ∷ [])
+    size_questions i ++ (ask Exponential (exponential_finite i.dimension i.input) ∷ [])
 
 -- ---- the answer
 

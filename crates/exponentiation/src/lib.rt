@@ -2,15 +2,16 @@
 #![tactic(auto)]
 
 ghost use Rattle.std.specs.Prelude.{◌≡◌};
-ghost use Rattle.refusal.specs.declared.Refusal.TheVariants.{Plain};
-ghost use Rattle.exponentiation.specs.Call.{shape_right, answered, refused};
+ghost use Rattle.refusal.specs.Questions.{first_no};
+ghost use Rattle.exponentiation.specs.Call.{shape_right, sizes_asked};
+ghost use Rattle.exponentiation.specs.Inner.Answer.{answer_of};
 ghost use Rattle.exponentiation.specs.Call.{matrix_inputs, ExponentialAnswered};
 
-use exponential::Exponentiated;
-use matrix::entries;
+use refusal::{Outcome, Refusal};
 
 // The answer as it crosses the edge (qrh_exponentiation in include/qrh.h): how often the scaled
 // matrix was squared, or the number of the first question that got a No. None of them has a place.
+// A C struct: C has no Result.
 #[repr(C)]
 #[derive(Clone, Copy)]
 pub struct Exponentiation {
@@ -19,44 +20,58 @@ pub struct Exponentiation {
     pub squarings: u64,
 }
 
-fn answered(squarings: u32) -> Exponentiation
-    ensures { result ≡ answered squarings }
+fn answer(exponentiated: Result<u32, Refusal>) -> Exponentiation
+    ensures { result ≡ answer_of exponentiated }
 {
-    let count = squarings as u64;
-    Exponentiation {
-        number: 0,
-        place: [0; 4],
-        squarings: count,
-    }
-}
-
-fn refused(number: u32) -> Exponentiation
-    ensures { result ≡ refused (Plain number) }
-{
-    Exponentiation {
-        number: number,
-        place: [0; 4],
-        squarings: 0,
+    match exponentiated {
+        Ok(squarings) => Exponentiation {
+            number: 0,
+            place: [0; 4],
+            squarings: squarings as u64,
+        },
+        Err(refusal) => Exponentiation {
+            number: refusal.number(),
+            place: refusal.place(),
+            squarings: 0,
+        },
     }
 }
 
 // Whether the dimension is 1 to 67 and both matrices have dimension² entries. A dimension may be
 // any number, so that it is tested before it is squared.
-#[tactic(auto, unfolding(crate::specs::Call::shape_right))]
+#[tactic(auto, using(matrix::proofs::Cells::small), unfolding(crate::specs::Call::shape_right))]
 fn shape_is_right(dim: usize, input: usize, output: usize) -> bool
     ensures { result ≡ shape_right dim input output }
 {
-    if dim < 1 {
-        return false;
-    }
-    if 67 < dim {
-        return false;
-    }
+    1 <= dim && dim <= 67 && input == dim * dim && output == dim * dim
+}
+
+// 26, then 16, of matrices and a workspace of so many doubles.
+#[tactic(auto, unfolding(refusal::specs::Questions::first_no, crate::specs::Call::sizes_asked))]
+fn size_questions(dim: usize, input: usize, output: usize, work: usize) -> Outcome
+    ensures { result ≡ first_no (sizes_asked dim input output work) }
+{
+    refusal::ensure(shape_is_right(dim, input, output), Refusal::Matrix)?;
+    refusal::ensure(work == 5 * (dim * dim), Refusal::Workspace)
+}
+
+// The exponential of input in output, and the number of its squarings.
+fn exponentiated(
+    dim: usize,
+    input: &[f64],
+    output: &mut [f64],
+    work: &mut [f64],
+) -> Result<u32, Refusal>
+    ensures { ExponentialAnswered
+        (matrix_inputs dim input.now output.old work.old)
+        (answer_of result) output.new work.new }
+{
+    size_questions(dim, input.len(), output.len(), work.len())?;
     let size = dim * dim;
-    if input != size {
-        return false;
-    }
-    output == size
+    work[..size].copy_from_slice(input);
+    let squarings = exponential::exponential(dim, work).ok_or(Refusal::Exponential)?;
+    output.copy_from_slice(&work[..size]);
+    Ok(squarings)
 }
 
 // The exponential of input, written to output once every question is passed.
@@ -70,19 +85,5 @@ pub fn exponentiate(
         (matrix_inputs dim input.now output.old work.old)
         result output.new work.new }
 {
-    if !shape_is_right(dim, input.len(), output.len()) {
-        return refused(26);
-    }
-    let size = dim * dim;
-    if work.len() != 5 * size {
-        return refused(16);
-    }
-    entries::copy(input, &mut work[..size]);
-    match exponential::exponential(dim, work) {
-        Exponentiated::NotFinite => refused(17),
-        Exponentiated::Done(squarings) => {
-            entries::copy(&work[..size], output);
-            answered(squarings)
-        }
-    }
+    answer(exponentiated(dim, input, output, work))
 }

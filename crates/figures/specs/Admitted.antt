@@ -1,17 +1,15 @@
 -- Small batches that are admitted, so that the batch's claim is not empty, and what they come to.
-use Rattle.std.specs.Prelude.{◌≡◌, ℕ, zero, suc, true, false, List, [], ◌∷◌, length, get_or, refl, Float}
-use Rattle.std.proofs.Common.{arith}
+use Rattle.std.specs.Prelude.{◌≡◌, ℕ, zero, suc, true, false, Err, refl, Float}
+use Rattle.std.specs.Prelude.{List, [], ◌∷◌, length, get_or}
+use Rattle.std.proofs.Common.{arith, rules}
 use Rattle.std.specs.Float.{nan, inf}
 use Rattle.std.specs.Float.Ieee.{lt, le, round, of_bits}
 use Rattle.numeric.specs.Double.{plus_zero}
 use Rattle.decimal.specs.Decimal.{value, is_negative, is_positive, scale_fits}
 use Rattle.refusal.specs.declared.Quantity.{Quantity}
 use Rattle.refusal.specs.declared.Quantity.TheVariants as quantity
-use Rattle.refusal.specs.declared.Outcome.{Outcome}
-use Rattle.refusal.specs.declared.Outcome.TheVariants.{Passed}
-use Rattle.refusal.specs.Questions.{first_no, each}
+use Rattle.refusal.specs.Questions.{Outcome, passed, first_no, each}
 use Rattle.refusal.specs.Refusal.{no_place}
-use Rattle.model.specs.declared.Finiteness.TheVariants.{NonFinite}
 use Rattle.model.specs.Kernel.{in_range}
 use Rattle.model.specs.Parameters.{start_of}
 use Rattle.model.specs.TimeGrid.{grid_of, steps_through}
@@ -105,31 +103,31 @@ unfolding
     is_negative is_positive scale_fits value round of_bits
 vix_asked i = first_no (vix_batch_questions i 80 (length lent))
 
-pub nine_admitted : vanilla_asked nine ≡ Passed
+pub nine_admitted : vanilla_asked nine ≡ passed
 unfolding vanilla_asked
 nine_admitted = refl
 
-pub ten_admitted : vanilla_asked ten ≡ Passed
+pub ten_admitted : vanilla_asked ten ≡ passed
 unfolding vanilla_asked
 ten_admitted = refl
 
-pub level_admitted : vanilla_asked level ≡ Passed
+pub level_admitted : vanilla_asked level ≡ passed
 unfolding vanilla_asked
 level_admitted = refl
 
-pub twice_admitted : vanilla_asked twice ≡ Passed
+pub twice_admitted : vanilla_asked twice ≡ passed
 unfolding vanilla_asked
 twice_admitted = refl
 
-pub touched_admitted : vanilla_asked touched ≡ Passed
+pub touched_admitted : vanilla_asked touched ≡ passed
 unfolding vanilla_asked
 touched_admitted = refl
 
-pub mirrored_admitted : vanilla_asked mirrored ≡ Passed
+pub mirrored_admitted : vanilla_asked mirrored ≡ passed
 unfolding vanilla_asked
 mirrored_admitted = refl
 
-pub vix_admitted : vix_asked vix ≡ Passed
+pub vix_admitted : vix_asked vix ≡ passed
 unfolding vix_asked
 vix_admitted = refl
 
@@ -234,7 +232,7 @@ pub ten_first : FiniteAt (vanilla_batch ten) 1 1
 unfolding start_of grid_of state_after finiteness value round of_bits
 ten_first = refl
 
-pub ten_fails : finiteness (state_of (vanilla_batch ten) 2 1) ≡ NonFinite quantity.Spot
+pub ten_fails : finiteness (state_of (vanilla_batch ten) 2 1) ≡ Err quantity.Spot
 unfolding start_of grid_of state_after finiteness value round of_bits
 ten_fails = refl
 
@@ -245,10 +243,10 @@ pub record StopOfTen (p k : ℕ) (q : Quantity) : Type 0 where
 
 -- what a failure at a step of path p says
 abbrev Stops : ℕ → ℕ → Quantity → Type 0
-Stops p k q = finiteness (state_of (vanilla_batch ten) p k) ≡ NonFinite q → StopOfTen p k q
+Stops p k q = finiteness (state_of (vanilla_batch ten) p k) ≡ Err q → StopOfTen p k q
 
 not_on_1 : (q : Quantity) → Stops 1 1 q
-not_on_1 q fails = let finite = ten_first in let z : ◌≡◌ {A = ℕ} 0 1 = cc in absurd (omega arith)
+not_on_1 q fails = let finite = ten_first in absurd cc
 
 on_2 : (q : Quantity) → Stops 2 1 q
 on_2 q fails = let spot = ten_fails in record { path = refl; step = refl; quantity = cc }
@@ -264,13 +262,12 @@ unfolding start_of grid_of
 ten_refused =
     record {
       path = 2;
-      is_path = record { from = omega arith; upto = omega arith };
+      is_path = search rules;
       step = 1;
-      is_step = record { from = omega arith; upto = omega arith };
+      is_step = search rules;
       fails = λ finite.
           let fails = ten_fails in
-          let z : ◌≡◌ {A = ℕ} 0 1 = cc in
-          omega arith;
+          cc;
     }
 
 -- so it does not reach the end of its segment
@@ -279,8 +276,7 @@ unfolding start_of grid_of state_after finiteness value round of_bits
 ten_ends reaches =
     let finite = reaches.steps 1 (omega arith) (omega arith) in
     let fails = ten_fails in
-    let z : ◌≡◌ {A = ℕ} 0 1 = cc in
-    omega arith
+    cc
 
 -- path 1 reaches the end of its segment
 pub nine_reaches : Reaches (vanilla_batch nine) 1 1
@@ -289,7 +285,7 @@ nine_reaches =
     record {
       steps = λ k from upto.
           one (λ k. FiniteAt (vanilla_batch nine) 1 k) refl k
-          (record { from = from; upto = upto });
+          (search rules);
       paths = λ r k from below is. absurd (omega (arith, from, below));
     }
 
@@ -299,6 +295,6 @@ twice_reaches =
     record {
       steps = λ k from upto.
           two (λ k. FiniteAt (vanilla_batch twice) 1 k) refl refl k
-          (record { from = from; upto = upto });
+          (search rules);
       paths = λ r k from below is. absurd (omega (arith, from, below));
     }

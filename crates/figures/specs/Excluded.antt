@@ -2,12 +2,12 @@
 -- (crates/batch/specs/Claim.antt). What each answers to a small admitted batch, or leaves in its
 -- table, does not meet the claim. Each proof looks at one field of the claim, the one that says so.
 use Rattle.std.specs.Prelude.{◌≡◌, ℕ, true, false, List, [], ◌∷◌, get_or, ◌≢◌, refl, Float}
-use Rattle.std.proofs.Common.{sym, ap, ◌∙◌, arith}
+use Rattle.std.proofs.Common.{sym, ap, ◌∙◌, arith, rules}
 use Rattle.std.specs.Float.{nan}
 use Rattle.std.specs.Float.Ieee.{lt, round, of_bits}
 use Rattle.numeric.specs.Double.{plus_zero}
 use Rattle.decimal.specs.Decimal.{value}
-use Rattle.refusal.specs.declared.Outcome.TheVariants.{Passed}
+use Rattle.refusal.specs.Questions.{passed}
 use Rattle.model.specs.Parameters.{start_of}
 use Rattle.model.specs.TimeGrid.{grid_of}
 use Rattle.model.specs.Walk.{state_after}
@@ -23,24 +23,24 @@ use Rattle.figures.specs.Admitted.{twice_admitted, twice_reaches}
 -- the claim of a batch, of its table and its answer, as its call has it (`BatchAnswered`)
 abbrev Claim : VanillaInputs → List Float → BatchAnswer → Type 0
 Claim i after answer =
-    vanilla_asked i ≡ Passed → BatchClaim (vanilla_batch i) (vanilla_payoff i) lent after answer
+    vanilla_asked i ≡ passed → BatchClaim (vanilla_batch i) (vanilla_payoff i) lent after answer
 
 -- it does not hold
 abbrev Excluded : VanillaInputs → List Float → BatchAnswer → Type 0
 Excluded i after answer = Claim i after answer → ⊥
 
 first_of_one : OneTo 1 1
-first_of_one = record { from = omega arith; upto = omega arith }
+first_of_one = search rules
 
 first_of_two : OneTo 2 1
-first_of_two = record { from = omega arith; upto = omega arith }
+first_of_two = search rules
 
 second_of_two : OneTo 2 2
-second_of_two = record { from = omega arith; upto = omega arith }
+second_of_two = search rules
 
 -- one double below another is not the same
 apart : {x y : Float} → lt x y ≡ true → lt y y ≡ false → x ≢ y
-apart below same e = let z : ◌≡◌ {A = ℕ} 0 1 = cc in omega arith
+apart below same e = cc
 
 -- ---- a core that refuses everything
 

@@ -1,7 +1,8 @@
 -- Rule 19.1: the figures P1 to P12, as the outer calls answer them, as one list with one theorem.
 -- They are proved here and nowhere else. Every double, given or expected, stands by its bits, so
 -- that no figure rests on the conversion that it checks.
-use Rattle.std.specs.Prelude.{◌≡◌, ℕ, false, List, [], ◌∷◌, ◌++◌, length, replicate, get_or, refl, Float}
+use Rattle.std.specs.Prelude.{◌≡◌, ℕ, false, refl, Float}
+use Rattle.std.specs.Prelude.{List, [], ◌∷◌, ◌++◌, length, replicate, get_or}
 use Rattle.std.specs.Float.{nan, binary64}
 use Rattle.std.specs.Float.Ieee.{of_bits, round}
 use Rattle.numeric.specs.Root.{root}
@@ -153,22 +154,9 @@ expected =
     ∷ figure 0 no_place (bits 0x40E3880000000000 ∷ bits 0x4069000000000000 ∷ []) []
     ∷ []
 
--- one figure after the other
-next :
-    {x y : Figure} {xs ys : List Figure} → x ≡ y → xs ≡ ys → ◌≡◌ {A = List Figure} (x ∷ xs) (y ∷ ys)
-next e f = cc
-
 pub figures : answered ≡ expected
 unfolding convert root of_bits round value is_negative is_positive scale_fits
     first_no each in_range range_questions scale_questions steps_through table_after
     trace_call trace_tables vanilla_questions priced_once_asked start_of grid_of
     exponential_call exponential_table vix_call
-figures =
-    next refl
-    (next refl
-    (next refl
-    (next refl
-    (next refl
-    (next refl
-    (next refl
-    (next refl (next refl (next refl (next refl (next refl (next refl refl))))))))))))
+figures = refl

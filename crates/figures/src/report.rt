@@ -1,30 +1,51 @@
-// A line for each figure, and how doubles are compared.
-use std::io;
-use std::num::wrapping_add_u64;
+// A figure as it is reported, and how doubles are compared.
+use std::fmt;
+use std::num::f64_to_bits_with_nan;
+use vanilla::Estimate;
 
-// Says whether a figure is right, and answers how many were wrong so far.
-pub(crate) fn tell(rt: &impl Print, figure: &str, right: bool, wrong: u64) -> io::Result<u64> {
-    if right {
-        println!(rt; "{figure}: ok")?;
-        return Ok(wrong);
+// What should be so, and whether it is.
+#[derive(Clone, Copy)]
+pub(crate) struct Figure {
+    text: &'static str,
+    right: bool,
+}
+
+impl Figure {
+    pub(crate) fn new(text: &'static str, right: bool) -> Figure {
+        Figure { text, right }
     }
-    println!(rt; "{figure}: WRONG")?;
-    Ok(wrapping_add_u64(wrong, 1))
-}
 
-// The bits of a double; every NaN has those of one.
-pub(crate) fn bits(x: f64) -> u64 {
-    if x != x {
-        return 0x7ff8_0000_0000_0000;
+    pub(crate) fn is_right(&self) -> bool {
+        self.right
     }
-    f64::to_bits(x)
 }
 
-pub(crate) fn same(x: f64, y: f64) -> bool {
-    bits(x) == bits(y)
+impl fmt::Display for Figure {
+    fn fmt<W: fmt::Write>(&self, f: &mut fmt::Formatter<W>) -> fmt::Result {
+        let text = self.text;
+        let verdict = if self.right { "ok" } else { "WRONG" };
+        write!(f, "{text}: {verdict}")
+    }
 }
 
-// Whether a place is this one.
-pub(crate) fn is_at(place: [u64; 4], first: u64, second: u64, third: u64, fourth: u64) -> bool {
-    (place[0] == first) & (place[1] == second) & (place[2] == third) & (place[3] == fourth)
+// Whether two doubles have the same bits; any NaN is as any other. (A line in each program: they
+// share no crate but those under test.)
+fn is_same(x: f64, y: f64) -> bool {
+    f64_to_bits_with_nan(x) == f64_to_bits_with_nan(y)
+}
+
+// Whether doubles are the expected ones.
+pub(crate) fn same(values: &[f64], expected: &[f64]) -> bool {
+    let mut pairs = values.iter().zip(expected);
+    values.len() == expected.len() && pairs.all(|(x, y)| is_same(*x, *y))
+}
+
+// The four estimates of a batch, in the order in which they are reported.
+pub(crate) fn estimates(answer: Estimate) -> [f64; 4] {
+    [
+        answer.price,
+        answer.price_error,
+        answer.spot_mean,
+        answer.spot_error,
+    ]
 }

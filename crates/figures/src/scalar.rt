@@ -1,8 +1,8 @@
 // P1 to P6: the conversion of a Decimal and the square root.
 use crate::given::{scaled, whole};
-use crate::report::{bits, is_at, same, tell};
+use crate::report::{Figure, same};
 use decimal::Decimal;
-use std::io;
+use std::num::f64_to_bits_with_nan;
 
 // 2^-1074.
 const SMALLEST: f64 = 5e-324;
@@ -10,14 +10,13 @@ const SMALLEST: f64 = 5e-324;
 // Whether a Decimal is answered by this double.
 fn converts(d: Decimal, value: f64) -> bool {
     let answer = qrh::qrh_convert(d);
-    (answer.number == 0) & same(answer.value, value)
+    answer.number == 0 && same(&[answer.value], &[value])
 }
 
 // Whether a Decimal is turned away by question 1, which has no place.
 fn is_refused(d: Decimal) -> bool {
     let answer = qrh::qrh_convert(d);
-    let place = answer.place;
-    (answer.number == 1) & is_at(place, 0, 0, 0, 0)
+    answer.number == 1 && answer.place == [0; 4]
 }
 
 // 90071992547409930000001 at scale 7; the coefficient is 4882 * 2^64 + low.
@@ -30,48 +29,35 @@ fn wide() -> Decimal {
     }
 }
 
-pub(crate) fn figures(rt: &impl Print, wrong: u64) -> io::Result<u64> {
-    let mut wrong = wrong;
-    wrong = tell(
-        rt,
-        "P1: 1 at scale 1 has the bits 3FB999999999999A",
-        bits(qrh::qrh_convert(scaled(1, 1)).value) == 0x3fb9_9999_9999_999a,
-        wrong,
-    )?;
-    wrong = tell(
-        rt,
-        "P2: 9007199254740993 becomes 9007199254740992",
-        converts(whole(9_007_199_254_740_993), 9007199254740992.0),
-        wrong,
-    )?;
-    wrong = tell(
-        rt,
-        "P3: 9007199254740995 becomes 9007199254740996",
-        converts(whole(9_007_199_254_740_995), 9007199254740996.0),
-        wrong,
-    )?;
-    wrong = tell(
-        rt,
-        "P4: 90071992547409930000001 at scale 7 becomes 9007199254740994",
-        converts(wide(), 9007199254740994.0),
-        wrong,
-    )?;
-    wrong = tell(
-        rt,
-        "P5: zero at scale 29 becomes +0.0",
-        converts(scaled(0, 29), 0.0),
-        wrong,
-    )?;
-    wrong = tell(
-        rt,
-        "P5: one at scale 29 is refused by 1",
-        is_refused(scaled(1, 29)),
-        wrong,
-    )?;
-    tell(
-        rt,
-        "P6: the root of 2^-1074 is 2^-537",
-        bits(qrh::qrh_sqrt(SMALLEST)) == (1023 - 537) * 0x10_0000_0000_0000,
-        wrong,
-    )
+pub(crate) fn figures() -> [Figure; 7] {
+    [
+        Figure::new(
+            "P1: 1 at scale 1 has the bits 3FB999999999999A",
+            f64_to_bits_with_nan(qrh::qrh_convert(scaled(1, 1)).value) == 0x3fb9_9999_9999_999a,
+        ),
+        Figure::new(
+            "P2: 9007199254740993 becomes 9007199254740992",
+            converts(whole(9_007_199_254_740_993), 9007199254740992.0),
+        ),
+        Figure::new(
+            "P3: 9007199254740995 becomes 9007199254740996",
+            converts(whole(9_007_199_254_740_995), 9007199254740996.0),
+        ),
+        Figure::new(
+            "P4: 90071992547409930000001 at scale 7 becomes 9007199254740994",
+            converts(wide(), 9007199254740994.0),
+        ),
+        Figure::new(
+            "P5: zero at scale 29 becomes +0.0",
+            converts(scaled(0, 29), 0.0),
+        ),
+        Figure::new(
+            "P5: one at scale 29 is refused by 1",
+            is_refused(scaled(1, 29)),
+        ),
+        Figure::new(
+            "P6: the root of 2^-1074 is 2^-537",
+            f64_to_bits_with_nan(qrh::qrh_sqrt(SMALLEST)) == (1023 - 537) << 52,
+        ),
+    ]
 }

@@ -1,31 +1,29 @@
 // P12: the evaluation of the VIX.
-use crate::given::{model_with, quarter, whole};
-use crate::report::{same, tell};
-use std::io;
+use crate::given::{DISCOUNTS, WEIGHTS, model, quarter, whole};
+use crate::report::{Figure, same};
 use vix_value::Factors;
 
 fn flat() -> bool {
-    let mut workspace = [0.0; 80];
+    let mut model = model();
+    model.a = whole(0);
     let given = Factors {
         count: 1,
         factors: [whole(0); 10],
     };
     let answer = qrh::qrh_vix(
-        &[1.0],
-        &[4.0],
-        model_with(0, 1, 0),
+        &WEIGHTS,
+        &DISCOUNTS,
+        model,
         quarter(),
         given,
-        &mut workspace,
+        &mut [0.0; 80],
     );
-    (answer.number == 0) & same(answer.squared, 40000.0) & same(answer.index, 200.0)
+    answer.number == 0 && same(&[answer.squared, answer.index], &[40000.0, 200.0])
 }
 
-pub(crate) fn figures(rt: &impl Print, wrong: u64) -> io::Result<u64> {
-    tell(
-        rt,
+pub(crate) fn figures() -> [Figure; 1] {
+    [Figure::new(
         "P12: a = 0, window 0.25: VIX squared 40000, index 200",
         flat(),
-        wrong,
-    )
+    )]
 }

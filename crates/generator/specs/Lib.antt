@@ -1,1 +1,2 @@
 pub mod Generator
+pub mod Inner

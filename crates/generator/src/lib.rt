@@ -2,99 +2,103 @@
 // window as it is stored.
 #![tactic(auto)]
 
-ghost use Rattle.std.specs.Prelude.{◌≡◌, ◌+◌, ◌-◌, ◌*◌, ◌≤◌, ◌<◌, length, take};
+ghost use Rattle.std.specs.Prelude.{◌≡◌, ◌-◌, ◌*◌, ◌≤◌, ◌<◌, length, take};
 ghost use Rattle.model.specs.Inner.InUse.{kernel_in_use};
 ghost use Rattle.matrix.specs.Matrix.{scaled};
 ghost use Rattle.generator_rows.specs.Inner.Appended.{Appended};
-ghost use Rattle.generator_rows.specs.State.{dimension, pair_at, joined, pairs_of_row, pairs_of_rows};
-ghost use Rattle.generator_rows.specs.Rows.{variance_row, mean_row, pair_row};
+ghost use Rattle.generator_rows.specs.State.{dimension, pair_at, joined};
+ghost use Rattle.generator_rows.specs.State.{pairs_of_row, pairs_of_rows};
+ghost use Rattle.generator_rows.specs.Rows.{variance_row};
 ghost use Rattle.generator.specs.Generator.{generator};
 
 use generator_rows::state;
 use model::{Kernel, Params};
 
-fn store_row(row: [f64; 67], dim: usize, at: usize, window: f64, work: &mut [f64])
-    requires { (dim ≤ 67) × (at + dim ≤ length work.old) }
-    ensures { Appended at (scaled window (take dim row))
-        work.old work.new }
-{
-    let mut column: usize = 0;
-    while column < dim {
-        work[at + column] = row[column] * window;
-        column += 1;
-    }
-}
-
-fn store_means(k: Kernel, p: Params, window: f64, dim: usize, work: &mut [f64])
-    requires { (k.n ≤ 10) × (dim ≡ dimension k.n) × (dim * dim ≤ length work.old) }
-    ensures { Appended 0 (joined (λ i. scaled window (mean_row (kernel_in_use k) p i)) k.n)
-        work.old work.new }
-{
-    let n = k.n;
-    let mut i: usize = 0;
-    while i < n {
-        let row = generator_rows::mean_row(k, p, i);
-        store_row(row, dim, i * dim, window, work);
-        i += 1;
-    }
-}
-
-// The rows of the pairs (i, i), (i, i + 1), .., of which the first is row `first`.
-fn store_pairs_of(
-    k: Kernel,
-    p: Params,
+// What the rows are made of, E[V] as a row included, and the window.
+#[derive(Clone, Copy)]
+struct Filling {
+    kernel: Kernel,
+    params: Params,
     variance: [f64; 67],
     window: f64,
-    dim: usize,
-    i: usize,
-    first: usize,
-    work: &mut [f64],
-)
-    requires n_bound { (k.n ≤ 10) × (dim ≡ dimension k.n) × (dim * dim ≤ length work.old) }
-    requires variance_value { take (dimension k.n) variance ≡ variance_row (kernel_in_use k) p }
-    requires i_lt_n { (i < k.n) × (first ≡ pair_at k.n i i) }
-    ensures { Appended (first * dim)
-        (pairs_of_row (λ i j. scaled window (pair_row (kernel_in_use k) p i j)) i (k.n - i))
-        work.old work.new }
-{
-    let rest = k.n - i;
-    let mut m: usize = 0;
-    while m < rest {
-        let row = generator_rows::pair_row(k, p, variance, i, i + m);
-        store_row(row, dim, (first + m) * dim, window, work);
-        m += 1;
-    }
+    ghost variance_is: { take (dimension kernel.n) variance
+        ≡ variance_row (kernel_in_use kernel) params },
 }
 
-fn store_pairs(k: Kernel, p: Params, variance: [f64; 67], window: f64, dim: usize, work: &mut [f64])
-    requires n_bound { (k.n ≤ 10) × (dim ≡ dimension k.n) × (dim * dim ≤ length work.old) }
-    requires variance_value { take (dimension k.n) variance ≡ variance_row (kernel_in_use k) p }
-    ensures { Appended (k.n * dim)
-        (pairs_of_rows (λ i j. scaled window (pair_row (kernel_in_use k) p i j)) k.n k.n)
-        work.old work.new }
-{
-    let n = k.n;
-    let mut first = n;
-    let mut i: usize = 0;
-    while i < n {
-        store_pairs_of(k, p, variance, window, dim, i, first, work);
-        first += n - i;
-        i += 1;
+// Where a method needs n it binds the kernel first: its proof then opens the kernel alone, and not
+// the whole filling.
+impl Filling {
+    ghost use Rattle.generator.specs.Inner.Filling.{mean_of, pair_of, HasRoom};
+
+    // Stores a row as the row of that number.
+    fn store_row(&self, row: &[f64; 67], number: usize, work: &mut [f64])
+        requires { HasRoom self.now work.old × (number < dimension self.now.kernel.n) }
+        ensures { Appended (number * dimension self.now.kernel.n)
+            (scaled self.now.window (take (dimension self.now.kernel.n) row.now))
+            work.old work.new }
+    {
+        let kernel = &self.kernel;
+        let dim = state::dimension_of(kernel.n);
+        let at = number * dim;
+        for column in 0..dim {
+            work[at + column] = row[column] * self.window;
+        }
+    }
+
+    fn store_means(&self, work: &mut [f64])
+        requires { HasRoom self.now work.old }
+        ensures { Appended 0 (joined (mean_of self.now) self.now.kernel.n) work.old work.new }
+    {
+        let kernel = &self.kernel;
+        for i in 0..kernel.n {
+            let row = generator_rows::mean_row(self.kernel, self.params, i);
+            self.store_row(&row, i, work);
+        }
+    }
+
+    // The rows of the pairs (i, i), (i, i + 1), ..
+    fn store_pairs_of(&self, i: usize, work: &mut [f64])
+        requires { HasRoom self.now work.old × (i < self.now.kernel.n) }
+        ensures { Appended (pair_at self.now.kernel.n i i * dimension self.now.kernel.n)
+            (pairs_of_row (pair_of self.now) i (self.now.kernel.n - i)) work.old work.new }
+    {
+        let kernel = &self.kernel;
+        for j in i..kernel.n {
+            let row = generator_rows::pair_row(self.kernel, self.params, &self.variance, i, j);
+            let number = state::pair(kernel.n, i, j);
+            self.store_row(&row, number, work);
+        }
+    }
+
+    fn store_pairs(&self, work: &mut [f64])
+        requires { HasRoom self.now work.old }
+        ensures { Appended (self.now.kernel.n * dimension self.now.kernel.n)
+            (pairs_of_rows (pair_of self.now) self.now.kernel.n self.now.kernel.n)
+            work.old work.new }
+    {
+        let kernel = &self.kernel;
+        for i in 0..kernel.n {
+            self.store_pairs_of(i, work);
+        }
     }
 }
 
 // The whole generator: the rows of the means, of the pairs, of the integral, which is E[V], and of
 // the constant.
 pub fn fill(k: Kernel, p: Params, window: f64, work: &mut [f64])
-    requires { (k.n ≤ 10) × (dimension k.n * dimension k.n ≤ length work.old) }
+    requires { dimension k.n * dimension k.n ≤ length work.old }
     ensures { take (dimension k.n * dimension k.n) work.new
         ≡ generator (kernel_in_use k) p window }
 {
     let dim = state::dimension_of(k.n);
-    let variance = generator_rows::variance_row(k, p);
-    store_means(k, p, window, dim, work);
-    store_pairs(k, p, variance, window, dim, work);
-    store_row(variance, dim, (dim - 2) * dim, window, work);
-    let zeros = [0.0; 67];
-    store_row(zeros, dim, (dim - 1) * dim, window, work);
+    let filling = Filling {
+        kernel: k,
+        params: p,
+        variance: generator_rows::variance_row(k, p),
+        window,
+    };
+    filling.store_means(work);
+    filling.store_pairs(work);
+    filling.store_row(&filling.variance, dim - 2, work);
+    filling.store_row(&[0.0; 67], dim - 1, work);
 }

@@ -17,7 +17,8 @@ more_rows n i zero = rw add-zero (omega arith)
 more_rows n i (suc d) = rw add-suc (omega (arith, more_rows n i d))
 
 pub fewer_rows : (n i j : ℕ) → i ≤ j → pairs_before n i ≤ pairs_before n j
-fewer_rows n i j h = subst (λ (x : ℕ). pairs_before n i ≤ pairs_before n x) (add-sub_of_le h) (more_rows n i (j - i))
+fewer_rows n i j h =
+    subst (λ (x : ℕ). pairs_before n i ≤ pairs_before n x) (add-sub_of_le h) (more_rows n i (j - i))
 
 -- a pair of row i is one of the pairs in use, and those are at most 55
 pub pair_in_use : (n i k : ℕ) → i < n → k < n - i → pairs_before n i + k < pairs_before n n

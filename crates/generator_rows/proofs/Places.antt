@@ -1,7 +1,8 @@
 -- The places of the state. Assumes nothing.
 use mathlib.Core.Path.{◌≡◌, sym, ap, ◌∙◌}
 use Prim.Native.Nat.{ℕ, zero, suc, ◌+◌, ◌-◌, ◌*◌, ◌/◌, ◌<◌, ◌≤◌}
-use native.Mathlib.Nat.{mul-suc, suc-mul, zero-mul, mul-le-mul, min-eq_left, min-eq_right, max-eq_left, max-eq_right}
+use native.Mathlib.Nat.{mul-suc, suc-mul, zero-mul, mul-le-mul, min-eq_left, min-eq_right}
+use native.Mathlib.Nat.{max-eq_left, max-eq_right}
 use native.Mathlib.Decide.{dec_le}
 use native.Mathlib.Omega.{arith}
 use Rattle.generator_rows.specs.State.{pairs_before, pair_at, integral_at, dimension}
@@ -14,7 +15,8 @@ unfolding pairs_before
 twice_pairs n zero h = zero-mul _
 twice_pairs n (suc i) h =
     let less : 2 * n + 1 - i ≡ suc (2 * n + 1 - suc i) = omega arith in
-    let more : i * (2 * n + 1 - i) ≡ i * (2 * n + 1 - suc i) + i = ap (λ (x : ℕ). i * x) less ∙ mul-suc i (2 * n + 1 - suc i) in
+    let more : i * (2 * n + 1 - i) ≡ i * (2 * n + 1 - suc i) + i = ap (λ (x : ℕ). i * x) less
+    ∙ mul-suc i (2 * n + 1 - suc i) in
     omega (arith, suc-mul i (2 * n + 1 - suc i), more, twice_pairs n i (omega arith))
 
 -- the dimension as it is usually written
@@ -47,6 +49,10 @@ first_pair n i =
     let same : i ≤ i = omega arith in
     sym (pair_up n same) ∙ omega arith
 
+-- and the others of the row come after it
+pub pair_after : (n : ℕ) {i j : ℕ} → i ≤ j → pair_at n i j ≡ pair_at n i i + (j - i)
+pair_after n {i} h = omega (arith, pair_up n h, first_pair n i)
+
 -- ---- bounds
 
 pub integral_most : {n : ℕ} → n ≤ 10 → integral_at n ≤ 65
@@ -56,7 +62,8 @@ pub dimension_most : {n : ℕ} → n ≤ 10 → dimension n ≤ 67
 dimension_most h = omega (arith, integral_most h)
 
 up_inside : {n i j : ℕ} → i ≤ j → j < n → pair_at n i j < integral_at n
-up_inside {n} {i} {j} h l = omega (arith, pair_up n h, pair_in_use n i (j - i) (omega arith) (omega arith))
+up_inside {n} {i} {j} h l =
+    omega (arith, pair_up n h, pair_in_use n i (j - i) (omega arith) (omega arith))
 
 pub pair_inside : {n i j : ℕ} → i < n → j < n → pair_at n i j < integral_at n
 pair_inside {n} {i} {j} h l = go (dec_le i j)
@@ -66,6 +73,9 @@ pair_inside {n} {i} {j} h l = go (dec_le i j)
     go (no a) =
         let b : j ≤ i = omega arith in
         omega (arith, pair_down n b, pair_in_use n j (i - j) (omega arith) (omega arith))
+
+pub pair_most : {n i j : ℕ} → n ≤ 10 → i < n → j < n → pair_at n i j < 67
+pair_most few h l = omega (arith, pair_inside h l, integral_most few)
 
 -- the pairs of row i end where those of the next begin, and before the integral
 pub row_inside : {n i : ℕ} → i < n → pair_at n i i + (n - i) ≤ integral_at n

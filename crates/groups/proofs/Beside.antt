@@ -7,7 +7,7 @@ use Prim.Native.Nat.{ℕ, suc, ◌+◌, ◌*◌, ◌<◌, ◌≤◌}
 use native.Mathlib.Numerals.{add-one}
 use native.Mathlib.Omega.{arith}
 use lib.Ieee.{Float, nan}
-use lib.ListN.{get_or, length}
+use lib.ListN.{get_or}
 use Rattle.lanes.specs.declared.Lanes.{Lanes}
 use Rattle.model.specs.declared.State.{State}
 use Rattle.model.specs.Step.{step, finiteness}
@@ -33,28 +33,23 @@ RowsFilled b path segment rows = (l j : ℕ) → l < 4 → j < segment → get_o
 pub record Beside (b : Batch) (n path : ℕ) (segment at : ℕ) (s : Lanes) (factors : List Float) (rows : List Float) : Type 0 where
   pub most : at ≤ b.simulation.grid.total
   pub reached : Reached b.simulation.grid segment at
-  pub long : length factors ≡ 40
-  pub wide : length rows ≡ 256
   pub state : (l : ℕ) → l < 4 → lane_of n s factors l ≡ state_after (walk_of b (suc (path + l))) at
   pub filled : RowsFilled b path segment rows
 
 -- the loop begins
-pub beside_first : (b : Batch) → Laid b.simulation.grid → (n path : ℕ) (s : Lanes) (factors : List Float) (rows : List Float) → length factors ≡ 40 → length rows ≡ 256 → ((l : ℕ) → l < 4 → lane_of n s factors l ≡ b.simulation.start) → Beside b n path 0 0 s factors rows
+pub beside_first : (b : Batch) → Laid b.simulation.grid → (n path : ℕ) (s : Lanes) (factors : List Float) (rows : List Float) → ((l : ℕ) → l < 4 → lane_of n s factors l ≡ b.simulation.start) → Beside b n path 0 0 s factors rows
 unfolding state_after
-beside_first b ok n path s factors rows long wide state =
+beside_first b ok n path s factors rows state =
     record {
       most = omega arith;
       reached = reached_none b.simulation.grid ok;
-      long = long;
-      wide = wide;
       state = state;
       filled = λ l j h k. absurd (omega arith);
     }
 
 module _ {b : Batch} (ok : Laid b.simulation.grid) {n path segment at : ℕ} {s : Lanes} {factors : List Float} {rows : List Float} (h : Beside b n path segment at s factors rows) where
   module _ (k : at < b.simulation.grid.total) (s' : Lanes) (factors' : List Float)
-      (e : (l : ℕ) → l < 4 → lane_of n s' factors' l ≡ step b.simulation.kernel b.simulation.params (lane_of n s factors l) (b.draw (suc (path + l)) (suc at)) (dt_at b.simulation.grid (suc at)) (sqrt_dt_at b.simulation.grid (suc at)))
-      (long' : length factors' ≡ 40) where
+      (e : (l : ℕ) → l < 4 → lane_of n s' factors' l ≡ step b.simulation.kernel b.simulation.params (lane_of n s factors l) (b.draw (suc (path + l)) (suc at)) (dt_at b.simulation.grid (suc at)) (sqrt_dt_at b.simulation.grid (suc at))) where
     next_state : (l : ℕ) → l < 4 → lane_of n s' factors' l ≡ state_after (walk_of b (suc (path + l))) (suc at)
     unfolding state_after
     next_state l m = e l m ∙ ap (λ (x : State). step b.simulation.kernel b.simulation.params x (b.draw (suc (path + l)) (suc at)) (dt_at b.simulation.grid (suc at)) (sqrt_dt_at b.simulation.grid (suc at))) (h.state l m)
@@ -66,23 +61,19 @@ module _ {b : Batch} (ok : Laid b.simulation.grid) {n path segment at : ℕ} {s 
         record {
           most = omega arith;
           reached = reached_on b.simulation.grid ok segment at h.reached here ne;
-          long = long';
-          wide = h.wide;
           state = λ l m. rw add-one (next_state l m);
           filled = h.filled;
         }
 
     -- a step that ends a segment, whose column is written
-    pub beside_write : at + 1 ≡ last_step b.simulation.grid (suc segment) → (rows' : List Float) → length rows' ≡ 256 → ((l : ℕ) → l < 4 → get_or rows' (l * b.simulation.grid.count + segment) nan ≡ b.observe (lane_of n s' factors' l)) → ((l j : ℕ) → l < 4 → j < b.simulation.grid.count → (j ≡ segment → ⊥) → get_or rows' (l * b.simulation.grid.count + j) nan ≡ get_or rows (l * b.simulation.grid.count + j) nan) → Beside b n path (segment + 1) (at + 1) s' factors' rows'
+    pub beside_write : at + 1 ≡ last_step b.simulation.grid (suc segment) → (rows' : List Float) → ((l : ℕ) → l < 4 → get_or rows' (l * b.simulation.grid.count + segment) nan ≡ b.observe (lane_of n s' factors' l)) → ((l j : ℕ) → l < 4 → j < b.simulation.grid.count → (j ≡ segment → ⊥) → get_or rows' (l * b.simulation.grid.count + j) nan ≡ get_or rows (l * b.simulation.grid.count + j) nan) → Beside b n path (segment + 1) (at + 1) s' factors' rows'
     unfolding observation
-    beside_write q rows' wide' new kept =
+    beside_write q rows' new kept =
         let here : segment < b.simulation.grid.count = reached_open b.simulation.grid ok segment at h.reached k in
         let q' : suc at ≡ last_step b.simulation.grid (suc segment) = rw add-one at q in
         record {
           most = omega arith;
           reached = reached_next b.simulation.grid ok segment at h.reached here q;
-          long = long';
-          wide = wide';
           state = λ l m. rw add-one (next_state l m);
           filled = λ l j m i.
               ⊎_elim (λ (z : j < segment). kept l j m (omega arith) (λ (y : j ≡ segment). absurd (omega arith)) ∙ h.filled l j m z)
@@ -109,6 +100,6 @@ module _ {b : Batch} (ok : Laid b.simulation.grid) {n path segment at : ℕ} {s 
         }
 
 -- every lane at the start
-pub lane_at_start : (n : ℕ) (start : State) (s : Lanes) (factors : List Float) → n ≤ length start.factors → AllAt start s → Spread n start.factors factors → (l : ℕ) → l < 4 → lane_of n s factors l ≡ state_in_use n start
-lane_at_start n start s factors long a f l h =
-    rw (a.spot l h, a.z l h, a.variance l h, a.lowest l h, sym (take_is_tabulate nan n (λ (i : ℕ). get_or factors (4 * i + l) nan) start.factors long (λ i j. sym (f.new i l j h))))
+pub lane_at_start : (n : ℕ) (start : State) (s : Lanes) (factors : List Float) → AllAt start s → Spread n start.factors factors → (l : ℕ) → l < 4 → lane_of n s factors l ≡ state_in_use n start
+lane_at_start n start s factors a f l h =
+    rw (a.spot l h, a.z l h, a.variance l h, a.lowest l h, sym (take_is_tabulate nan n (λ (i : ℕ). get_or factors (4 * i + l) nan) start.factors f.enough (λ i j. sym (f.new i l j h))))

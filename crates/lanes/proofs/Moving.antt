@@ -6,7 +6,7 @@ use mathlib.Core.Logic.{inl, inr}
 use native.Mathlib.Numerals.{add-one}
 use native.Mathlib.Omega.{arith}
 use borrow.Author.Count.{below_more}
-use lib.ListN.{length, get_or, take}
+use lib.ListN.{get_or, take}
 use lib.Seq.{get_or-take}
 use lib.Ieee.{Float, nan, binary64, neg}
 use Rattle.numeric.specs.Double.{plus, times, over, minus_zero, smaller}
@@ -30,7 +30,6 @@ sum_same weights f g (suc k) h = rw (sum_same weights f g k (λ i l. h i (omega 
 
 -- the first i factors of each lane are moved, the others are as before, and z has the sums
 pub record Going (i : ℕ) (forcing divisors weights before after z : List Float) : Type 0 where
-  pub long : length after ≡ length before
   pub new : (j l : ℕ) → j < i → l < 4 → get_or after (4 * j + l) nan ≡ over (plus (get_or before (4 * j + l) nan) (get_or forcing l nan)) (get_or divisors j nan)
   pub rest : (x : ℕ) → 4 * i ≤ x → get_or after x nan ≡ get_or before x nan
   pub sum : (l : ℕ) → l < 4 → get_or z l nan ≡ weighted_sum weights (lane_factors i after l) i
@@ -39,7 +38,6 @@ pub going_more : (i : ℕ) (forcing divisors weights before after next z z' : Li
 unfolding weighted_sum
 going_more i forcing divisors weights before after next z z' g r s =
     record {
-      long = r.long ∙ g.long;
       new = λ j l h k.
           below_more (λ (j : ℕ). get_or next (4 * j + l) nan ≡ over (plus (get_or before (4 * j + l) nan) (get_or forcing l nan)) (get_or divisors j nan)) i
           (λ j m. r.kept (4 * j + l) (inl (omega arith)) ∙ g.new j l m k)
@@ -61,11 +59,7 @@ going_more i forcing divisors weights before after next z z' g r s =
 pub going_none : (forcing divisors weights before z : List Float) → ((l : ℕ) → l < 4 → get_or z l nan ≡ minus_zero) → Going 0 forcing divisors weights before before z
 unfolding weighted_sum
 going_none forcing divisors weights before z s =
-    record { long = refl; new = λ j l h k. absurd (omega arith); rest = λ x h. refl; sum = λ l k. s l k }
-
-pub going_done : (n : ℕ) (forcing divisors weights before after z : List Float) → Going n forcing divisors weights before after z → LanesMoved n forcing divisors weights before after z
-going_done n forcing divisors weights before after z g =
-    record { long = g.long; new = λ i l h k. g.new i l h k; sum = g.sum }
+    record { new = λ j l h k. absurd (omega arith); rest = λ x h. refl; sum = λ l k. s l k }
 
 -- ---- a step of each lane
 
@@ -123,6 +117,5 @@ pub lanes_stepped : (roots : List Float) (k : Kernel) (p : Params) (s : Lanes) (
     → LanesStepped roots k p s g rates before after next
 lanes_stepped roots k p s g rates before after next forcing own m f q v b =
     record {
-      long = m.long;
       lane = λ l h e. lane_step k p s rates forcing before after next.z own m l h (get_or roots l nan) (get_or g l nan) _ _ _ e (f l h) (q l h) (v l h) (b l h);
     }

@@ -2,7 +2,9 @@
 // is at 4 * i + l of a table of factors.
 #![tactic(auto)]
 
-ghost use Rattle.std.specs.Prelude.{◌≡◌, true, ℕ, ◌≤◌, ◌<◌, length};
+ghost use Rattle.std.specs.Prelude.{◌≡◌, true, ℕ, ◌≤◌, ◌<◌, get_or};
+ghost use Rattle.std.specs.Float.{nan};
+ghost use Rattle.numeric.specs.Double.{finite};
 ghost use Rattle.lanes.specs.Inner.Lanes.{AllAt, Spread, FiniteLane};
 
 use model::State;
@@ -12,21 +14,14 @@ pub mod rows;
 pub mod scheme;
 
 // Four states but for their factors: a path's spot, z, variance and lowest spot are in one place of
-// each.
+// each. Arrays side by side, so that the compiler works two lanes at a time. (The step of one path
+// is no twin of theirs: its state by value is a form that was asked for.)
 #[derive(Clone, Copy)]
 pub struct Lanes {
     pub spot: [f64; 4],
     pub z: [f64; 4],
     pub variance: [f64; 4],
     pub lowest: [f64; 4],
-}
-
-// What a step in every lane gives, and whether the roots that it took were seen to be the roots of
-// the variances. Where they were not, nothing is known of it.
-#[derive(Clone, Copy)]
-pub struct Tried {
-    pub lanes: Lanes,
-    pub sure: bool,
 }
 
 // Every lane at the same state.
@@ -42,37 +37,24 @@ pub fn all_at(s: State) -> Lanes
 }
 
 // The first n of `values`, in every lane.
-pub fn spread(n: usize, values: [f64; 10], factors: &mut [f64])
-    requires { (n ≤ 10) × (length factors.old ≡ 40) }
+pub fn spread(n: usize, values: [f64; 10], factors: &mut [f64; 40])
+    requires { n ≤ 10 }
     ensures { Spread n values factors.new }
 {
-    let end = 4 * n;
-    let mut x: usize = 0;
-    while x < end {
+    for x in 0..4 * n {
         factors[x] = values[x / 4];
-        x += 1;
     }
+}
+
+fn are_finite(values: &[f64; 4]) -> bool
+    ensures { result ≡ true → (l : ℕ) → l < 4 → finite (get_or values.now l nan) ≡ true }
+{
+    values.iter().all(|x| numeric::is_finite(*x))
 }
 
 // Whether every lane's spot, z and variance are finite.
 pub fn all_finite(s: Lanes) -> bool
     ensures { result ≡ true → (l : ℕ) → l < 4 → FiniteLane s l }
 {
-    let spot = s.spot;
-    let z = s.z;
-    let variance = s.variance;
-    let mut l: usize = 0;
-    while l < 4 {
-        if !numeric::is_finite(spot[l]) {
-            return false;
-        }
-        if !numeric::is_finite(z[l]) {
-            return false;
-        }
-        if !numeric::is_finite(variance[l]) {
-            return false;
-        }
-        l += 1;
-    }
-    true
+    are_finite(&s.spot) && are_finite(&s.z) && are_finite(&s.variance)
 }

@@ -26,13 +26,7 @@ fn near_root(x: f64) -> f64 {
 
 // About the root of each variance, of which nothing is known until `are_roots` says so.
 pub(crate) fn guesses(s: Lanes) -> [f64; 4] {
-    let variance = s.variance;
-    [
-        near_root(variance[0]),
-        near_root(variance[1]),
-        near_root(variance[2]),
-        near_root(variance[3]),
-    ]
+    std::array::from_fn(|l| near_root(s.variance[l]))
 }
 
 // Whether these are seen to be the roots of the variances. A `false` says nothing.
@@ -40,13 +34,6 @@ pub(crate) fn are_roots(s: Lanes, roots: [f64; 4]) -> bool
     ensures { result ≡ true → (l : ℕ) → l < 4
         → get_or roots l nan ≡ root binary64 (get_or s.variance l nan) }
 {
-    let variance = s.variance;
-    let mut l: usize = 0;
-    while l < 4 {
-        if !numeric::is_root(variance[l], roots[l]) {
-            return false;
-        }
-        l += 1;
-    }
-    true
+    let mut pairs = s.variance.iter().zip(roots.iter());
+    pairs.all(|(x, root)| numeric::is_root(*x, *root))
 }

@@ -1,18 +1,16 @@
 // A row of a table of factors: one factor, in every lane.
-ghost use Rattle.std.specs.Prelude.{◌≡◌, ℕ, ◌+◌, ◌≤◌, ◌<◌, length, get_or};
+ghost use Rattle.std.specs.Prelude.{◌≡◌, ℕ, ◌+◌, ◌≤◌, ◌<◌, get_or, length};
 ghost use Rattle.std.specs.Float.{nan};
 ghost use Rattle.numeric.specs.Double.{plus, times};
 ghost use Rattle.lanes.specs.Inner.Lanes.{RowMoved};
 
 // The four factors at a place become (factor + forcing) / divisor.
-pub(crate) fn move_row(forcing: [f64; 4], divisor: f64, at: usize, factors: &mut [f64])
-    requires { (at ≤ 36) × (at + 4 ≤ length factors.old) }
+pub(crate) fn move_row(forcing: [f64; 4], divisor: f64, at: usize, factors: &mut [f64; 40])
+    requires { at ≤ 36 }
     ensures { RowMoved forcing divisor at factors.old factors.new }
 {
-    let mut l: usize = 0;
-    while l < 4 {
+    for l in 0..4 {
         factors[at + l] = (factors[at + l] + forcing[l]) / divisor;
-        l += 1;
     }
 }
 
@@ -22,11 +20,5 @@ pub fn add_products(sum: [f64; 4], multiples: [f64; 4], at: usize, factors: &[f6
     ensures { (l : ℕ) → l < 4 → get_or result l nan ≡ plus (get_or sum l nan)
         (times (get_or multiples l nan) (get_or factors.now (at + l) nan)) }
 {
-    let mut next = sum;
-    let mut l: usize = 0;
-    while l < 4 {
-        next[l] = sum[l] + multiples[l] * factors[at + l];
-        l += 1;
-    }
-    next
+    std::array::from_fn(|l| sum[l] + multiples[l] * factors[at + l])
 }

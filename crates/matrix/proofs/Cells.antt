@@ -6,12 +6,11 @@ use native.Mathlib.Nat.{mul-le-mul, mul-le-mul_right, suc-mul, mod-lt}
 use native.Mathlib.Nat.{div-lt_iff_lt-mul, div-add-mod'}
 use native.Mathlib.Omega.{arith}
 use lib.Arith.{digits_lt, digits_div, digits_mod}
-use lib.ListN.{length, get_or, drop, length-drop}
-use lib.Seq.{ext_get_or, length-take-le, get_or-take, get_or-drop}
+use lib.ListN.{length, get_or}
+use lib.Seq.{ext_get_or}
 use lib.Ieee.{Float, nan}
 use Rattle.numeric.proofs.Tables.{length_tabulate, get_d_tabulate}
 use Rattle.matrix.specs.Matrix.{entry, matrix}
-use Rattle.matrix.specs.Inner.Workspace.{matrix_at}
 
 -- a cell of a matrix of dimension n is among its n × n
 pub inside : {n i j : ℕ} → i < n → j < n → i * n + j < n * n
@@ -55,24 +54,3 @@ same_matrix (suc m) a b la lb h =
     at k l =
         subst (λ (x : ℕ). get_or a x nan ≡ get_or b x nan) (div-add-mod' k (suc m))
         (h (k / suc m) (k % suc m) ((div-lt_iff_lt-mul (omega arith)).1 l) (mod-lt k (omega arith)))
-
--- ---- a matrix of a workspace
-
-module _ (n at : ℕ) (work : List Float) where
-  pub length_at : at + n * n ≤ length work → length (matrix_at n at work) ≡ n * n
-  length_at h = length-take-le (n * n) (drop at work) (omega (arith, length-drop at work))
-
-  pub cell_at : (k : ℕ) → k < n * n → get_or (matrix_at n at work) k nan ≡ get_or work (at + k) nan
-  cell_at k h = get_or-take (n * n) (drop at work) k nan h ∙ get_or-drop at work k nan
-
--- two matrices of workspaces are the same where their cells are
-pub same_at :
-    (n at at' : ℕ) (work work' : List Float) → at + n * n ≤ length work → at' + n * n ≤ length work'
-    → ((k : ℕ) → k < n * n → get_or work (at + k) nan ≡ get_or work' (at' + k) nan)
-    → matrix_at n at work ≡ matrix_at n at' work'
-same_at n at at' work work' h h' s =
-    let l = length_at n at work h in
-    ext_get_or nan (matrix_at n at work) (matrix_at n at' work') (l ∙ sym (length_at n at' work' h'))
-    (λ k b. let i : k < n * n = subst (λ (m : ℕ). k < m) l b in cell_at n at work k i
-    ∙ s k i
-    ∙ sym (cell_at n at' work' k i))

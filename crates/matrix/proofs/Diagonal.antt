@@ -131,11 +131,6 @@ bumped_all n before now i long p h =
     (entry_matrix n (λ r c. cond (eqb r c) (plus (entry n before r c) one) (entry n before r c)) r c
     a b))
 
-pub length_bumped : (n : ℕ) (a : List Float) → length (plus_identity n a) ≡ n * n
-unfolding plus_identity
-length_bumped n a =
-    length_matrix n (λ r c. cond (eqb r c) (plus (entry n a r c) one) (entry n a r c))
-
 -- zeros with + 1 on the diagonal
 pub identity_is : (n : ℕ) → plus_identity n (replicate (n * n) plus_zero) ≡ identity n
 unfolding plus_identity identity

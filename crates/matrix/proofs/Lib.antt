@@ -1,6 +1,5 @@
 pub mod Lists
 pub mod Cells
-pub mod Stores
 pub mod Products
 pub mod Rows
 pub mod Diagonal

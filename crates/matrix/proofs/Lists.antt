@@ -1,17 +1,15 @@
--- Parts of a list; entries times a factor; every entry finite. Assumes nothing.
-use mathlib.Core.Path.{◌≡◌, sym, ap, ◌∙◌, subst}
-use mathlib.Core.Bool.{true, false, ◌&&◌}
+-- Parts of a list; entries times a factor. Assumes nothing.
+use mathlib.Core.Path.{◌≡◌, sym, ◌∙◌, subst}
 use mathlib.Core.List.{List, ◌++◌}
-use Prim.Native.Nat.{ℕ, suc, ◌+◌, ◌-◌, ◌≤◌, ◌<◌}
-use native.Mathlib.Numerals.{add-one}
+use Prim.Native.Nat.{ℕ, ◌+◌, ◌-◌, ◌≤◌, ◌<◌}
 use native.Mathlib.Omega.{arith}
 use lib.ListN.{length, get_or, take, drop, length-drop, length-map}
-use lib.ListN.{get_or-map, get_or-append, drop_of_length-le}
-use lib.Seq.{drop-cons, get_or-append-add, length-take-le, get_or-take, get_or-drop}
+use lib.ListN.{get_or-map, get_or-append}
+use lib.Seq.{get_or-append-add, length-take-le, get_or-take, get_or-drop}
 use lib.Ieee.{Float, nan, mul}
 use borrow.Rule.Slice.PartMut.{put_mid, post_of}
-use Rattle.numeric.specs.Double.{times, finite}
-use Rattle.matrix.specs.Matrix.{scaled, all_finite}
+use Rattle.numeric.specs.Double.{times}
+use Rattle.matrix.specs.Matrix.{scaled}
 
 -- ---- a part of a list
 
@@ -39,7 +37,8 @@ module _ (xs ys : List Float) (at k : ℕ) (within : at ≤ length xs) where
 
   pub put_in : (j : ℕ) → j < length ys → get_or (put_mid at k xs ys) (at + j) nan ≡ get_or ys j nan
   put_in j h =
-      subst (λ (n : ℕ). get_or (put_mid at k xs ys) (n + j) nan ≡ get_or (ys ++ post_of at k xs) j nan)
+      subst (λ (n : ℕ). get_or (put_mid at k xs ys) (n + j) nan
+      ≡ get_or (ys ++ post_of at k xs) j nan)
       (length-take-le at xs within) (get_or-append-add (take at xs) (ys ++ post_of at k xs) j nan)
       ∙ get_or-append ys (post_of at k xs) nan j h
 
@@ -53,25 +52,3 @@ pub get_d_scaled :
     (x : Float) (l : List Float) (j : ℕ) → get_or (scaled x l) j nan ≡ times (get_or l j nan) x
 unfolding scaled mul
 get_d_scaled x l j = get_or-map (λ (e : Float). times e x) l j nan
-
--- ---- every entry finite
-
-finite_cons :
-    (m : List Float) (k : ℕ) → k < length m
-    → all_finite (drop k m) ≡ (finite (get_or m k nan) && all_finite (drop (suc k) m))
-unfolding all_finite
-finite_cons m k h = ap all_finite (drop-cons m k nan h)
-
-pub finite_none : (m : List Float) (k : ℕ) → length m ≤ k → all_finite (drop k m) ≡ true
-unfolding all_finite
-finite_none m k h = ap all_finite (drop_of_length-le m h)
-
-pub finite_not :
-    (m : List Float) (k : ℕ) → k < length m → finite (get_or m k nan) ≡ false
-    → all_finite (drop k m) ≡ false
-finite_not m k h e = rw (finite_cons m k h, e)
-
-pub finite_more :
-    (m : List Float) (k : ℕ) → k < length m → finite (get_or m k nan) ≡ true
-    → all_finite (drop k m) ≡ all_finite (drop (k + 1) m)
-finite_more m k h e = rw (add-one, finite_cons m k h, e)

@@ -1,2 +1,3 @@
--- What the functions over a workspace promise each other: no contract of an outer call mentions it.
+-- What functions over matrices promise each other: no contract of an outer call mentions it.
+pub mod Row
 pub mod Workspace

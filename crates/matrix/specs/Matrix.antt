@@ -1,7 +1,9 @@
 -- Square matrices of doubles, and the operations that their exponential is made of. A matrix of
 -- dimension n is the list of its n × n entries, row by row. Rows and columns count from 0.
 -- Definitions only.
-use Rattle.std.specs.Prelude.{ℕ, zero, suc, ◌+◌, ◌*◌, ◌/◌, ◌%◌, Bool, true, ◌&&◌, cond, List, [], ◌∷◌, map, eqb, get_or, Float}
+use Rattle.std.specs.Prelude.{ℕ, zero, suc, ◌+◌, ◌*◌, ◌/◌, ◌%◌, Bool, cond, List, map, eqb}
+use Rattle.std.specs.Prelude.{get_or, Float}
+use Rattle.std.specs.List.{list_all}
 use Rattle.std.specs.Float.{nan}
 use Rattle.std.specs.Float.Ieee.{eq, add, mul}
 use Rattle.numeric.specs.Double.{plus, times, one, plus_zero, finite}
@@ -58,5 +60,4 @@ plus_identity n a = matrix n (λ i j. cond (eqb i j) (plus (entry n a i j) one) 
 
 -- Rule 12.8: is every entry finite?
 unfoldable pub all_finite : List Float → Bool
-all_finite [] = true
-all_finite (x ∷ xs) = finite x && all_finite xs
+all_finite a = list_all finite a

@@ -5,6 +5,7 @@ use mathlib.Core.Path.{◌≡◌, refl, sym, ap, ◌∙◌, subst}
 use mathlib.Core.Bool.{Bool, true, false, and-eq-true_iff}
 use mathlib.Core.List.{List}
 use mathlib.Core.Logic.{⊎_elim}
+use Rattle.std.proofs.Common.{Err}
 use Prim.Native.Nat.{ℕ, zero, suc, ◌+◌, ◌*◌, ◌^◌, ◌≤◌, ◌<◌}
 use native.Mathlib.Nat.{le_trans, le_of_eq, mul-one, one-mul}
 use native.Mathlib.Omega.{arith}
@@ -16,9 +17,8 @@ use Rattle.refusal.specs.declared.Quantity.{Quantity}
 use Rattle.refusal.specs.declared.Quantity.TheVariants.{Spot, Z, Variance}
 use Rattle.model.specs.declared.State.{State}
 use Rattle.model.specs.declared.Simulation.{Simulation}
-use Rattle.model.specs.declared.Finiteness.TheVariants.{Finite, NonFinite}
 use Rattle.model.specs.Kernel.{in_range}
-use Rattle.model.specs.Step.{weighted_sum, variance_at, read, step, first_of_three, finiteness}
+use Rattle.model.specs.Step.{weighted_sum, variance_at, read, step, first_of_three, finite_state, finiteness}
 use Rattle.model.specs.Walk.{Walk, state_after, Sound}
 use Rattle.model.specs.Inner.Admitted.{Converted, Admitted}
 use Rattle.model.proofs.First.{split}
@@ -41,20 +41,20 @@ sum_factors weights factors (suc n) h i l =
     (split i n)
 
 -- ---- spot, z and variance of a finite state
-pub not_finite : (q : Quantity) → NonFinite q ≡ Finite → ⊥
+pub not_finite : (q : Quantity) → Err q ≡ finite_state → ⊥
 not_finite q e = let z : ◌≡◌ {A = ℕ} 0 1 = cc in omega arith
 
-three : (a b c : Bool) → first_of_three a b c ≡ Finite → (a ≡ true) × (b ≡ true) × (c ≡ true)
+three : (a b c : Bool) → first_of_three a b c ≡ finite_state → (a ≡ true) × (b ≡ true) × (c ≡ true)
 three false b c e = absurd (not_finite Spot e)
 three true false c e = absurd (not_finite Z e)
 three true true false e = absurd (not_finite Variance e)
 three true true true e = (refl, refl, refl)
 
-pub finite_parts : (s : State) → finiteness s ≡ Finite → (finite s.spot ≡ true) × (finite s.z ≡ true) × (finite s.variance ≡ true)
+pub finite_parts : (s : State) → finiteness s ≡ finite_state → (finite s.spot ≡ true) × (finite s.z ≡ true) × (finite s.variance ≡ true)
 unfolding finiteness
 finite_parts s e = three (finite s.spot) (finite s.z) (finite s.variance) e
 
-pub parts_finite : (s : State) → finite s.spot ≡ true → finite s.z ≡ true → finite s.variance ≡ true → finiteness s ≡ Finite
+pub parts_finite : (s : State) → finite s.spot ≡ true → finite s.z ≡ true → finite s.variance ≡ true → finiteness s ≡ finite_state
 unfolding finiteness
 parts_finite s a b c = rw (a, b, c)
 
@@ -97,7 +97,7 @@ module _ (m : Simulation) (ok : Admitted m) where
       dot_within {i = 90} {j = 96} n (sum_within n (omega arith)) (weight_within _ (ok.weight n h))
       (converted_within (ok.params.factor n h)) (omega (arith, ok.few))
 
-  pub start_finite : finiteness m.start ≡ Finite
+  pub start_finite : finiteness m.start ≡ finite_state
   unfolding read variance_at
   start_finite =
       let p = m.params in
@@ -114,7 +114,7 @@ module _ (m : Simulation) (ok : Admitted m) where
 
   -- a state that is read off its factors
   read_sound : (spot lowest : Float) (factors : List Float) → finite lowest ≡ true
-      → finiteness (read m.kernel m.params spot lowest factors) ≡ Finite
+      → finiteness (read m.kernel m.params spot lowest factors) ≡ finite_state
       → Sound m (read m.kernel m.params spot lowest factors)
   unfolding read variance_at
   read_sound spot lowest factors l f =
@@ -133,7 +133,7 @@ module _ (m : Simulation) (ok : Admitted m) where
 
 -- every state of a walk up to which each step is finite, the start included
 module _ (w : Walk) (ok : Admitted w.simulation) where
-  pub walk_sound : (k : ℕ) → ((j : ℕ) → 1 ≤ j → j ≤ k → finiteness (state_after w j) ≡ Finite)
+  pub walk_sound : (k : ℕ) → ((j : ℕ) → 1 ≤ j → j ≤ k → finiteness (state_after w j) ≡ finite_state)
       → Sound w.simulation (state_after w k)
   unfolding state_after step
   walk_sound zero h =

@@ -38,15 +38,6 @@ moved_take k factors next f r few rates m =
     take_is_tabulate nan k.n _ next (omega (arith, m.long))
     (λ i h. m.entry i h ∙ rw (rates.divisor i h, get_or-take k.n factors i nan h, get_or-take k.n k.discounts i nan h))
 
--- rates are those of their own dt
-pub rates_own : (k : Kernel) (r : Rates) (dt root : Float) → RatesOf k dt root r → RatesOf k r.dt r.sqrt_dt r
-rates_own k r dt root h =
-    record {
-      dt_is = refl;
-      sqrt_dt_is = refl;
-      divisor = λ i l. h.divisor i l ∙ ap (λ (d : Float). plus one (times (get_or k.discounts i nan) d)) (sym h.dt_is);
-    }
-
 -- past the end of both tables
 pub rates_past : (k : Kernel) (r : Rates) (dts roots : List Float) (i : ℕ) → length dts ≤ i → length roots ≤ i → RatesOf k nan nan r → RatesOf k (get_or dts i nan) (get_or roots i nan) r
 rates_past k r dts roots i d s h = rw (get_or-eq_default dts nan d, get_or-eq_default roots nan s) h

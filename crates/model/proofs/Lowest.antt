@@ -9,8 +9,7 @@ use Rattle.numeric.specs.Double.{smaller}
 use Rattle.numeric.proofs.Order.{le_through}
 use Rattle.numeric.proofs.Minimum.{le_refl, smaller_is}
 use Rattle.model.specs.declared.State.{State}
-use Rattle.model.specs.declared.Finiteness.TheVariants.{Finite}
-use Rattle.model.specs.Step.{read, step, finiteness}
+use Rattle.model.specs.Step.{read, step, finite_state, finiteness}
 use Rattle.model.specs.Walk.{Walk, state_after, LowestSpot}
 use Rattle.model.specs.Inner.Admitted.{Admitted}
 use Rattle.model.proofs.First.{split}
@@ -38,10 +37,10 @@ module _ (w : Walk) (ok : Admitted w.simulation) where
         at_most = λ j l. let e : 0 ≡ j = omega arith in subst (λ (j : ℕ). le (state_after w 0).lowest (state_after w j).spot ≡ true) e least;
       }
 
-  pub walk_lowest : (k : ℕ) → ((j : ℕ) → 1 ≤ j → j ≤ k → finiteness (state_after w j) ≡ Finite) → LowestSpot w k
+  pub walk_lowest : (k : ℕ) → ((j : ℕ) → 1 ≤ j → j ≤ k → finiteness (state_after w j) ≡ finite_state) → LowestSpot w k
   walk_lowest zero h = at_start
   walk_lowest (suc k) h =
-      let earlier : (j : ℕ) → 1 ≤ j → j ≤ k → finiteness (state_after w j) ≡ Finite = λ j l n. h j l (omega arith) in
+      let earlier : (j : ℕ) → 1 ≤ j → j ≤ k → finiteness (state_after w j) ≡ finite_state = λ j l n. h j l (omega arith) in
       let before = walk_lowest k earlier in
       let old = (state_after w k).lowest in
       let new = (state_after w (suc k)).spot in

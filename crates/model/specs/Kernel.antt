@@ -10,4 +10,5 @@ in_range x = le (fin false 1 (negsuc 89)) x && le x (fin false 1 (pos 90))
 
 -- Rule 5.2: the kernel of two tables, with n, the number of weights
 abbrev pub kernel_of : List Float → List Float → Kernel
-kernel_of weights discounts = record { n = length weights; weights = weights; discounts = discounts }
+kernel_of weights discounts =
+    record { n = length weights; weights = weights; discounts = discounts }

@@ -1,3 +1,4 @@
+pub mod Tables
 pub mod Kernel
 pub mod Parameters
 pub mod First

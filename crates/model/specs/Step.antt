@@ -1,17 +1,17 @@
 -- A state, how z and variance are read off its factors, and one step of the scheme.
 -- Definitions only.
 use Rattle.std.specs.Prelude.{Bool, true, false, List, ℕ, zero, suc, get_or, Float}
+use Rattle.std.specs.Prelude.{Result, Ok, Err}
 use Rattle.std.specs.Float.{nan, binary64}
 use Rattle.std.specs.Float.Ieee.{add, sub, mul, div, neg}
 use Rattle.numeric.specs.Double.{plus, minus, times, over, one, minus_zero, smaller, finite}
 use Rattle.numeric.specs.Root.{root}
 use Rattle.numeric.specs.Table.{tabulate}
+use Rattle.refusal.specs.declared.Quantity.{Quantity}
 use Rattle.refusal.specs.declared.Quantity.TheVariants.{Spot, Z, Variance}
 use Rattle.model.specs.declared.Kernel.{Kernel}
 use Rattle.model.specs.declared.Params.{Params}
 use Rattle.model.specs.declared.State.{State}
-use Rattle.model.specs.declared.Finiteness.{Finiteness}
-use Rattle.model.specs.declared.Finiteness.TheVariants.{Finite, NonFinite}
 
 -- Rule 5.5: the sum of weight × factor over the first k indices, in their order, begun at -0.0
 unfoldable pub weighted_sum : List Float → List Float → ℕ → Float
@@ -53,12 +53,19 @@ step k p s g dt sqrt_dt =
     let spot = plus s.spot (times s.spot d) in
     read k p spot (smaller s.lowest spot) (moved k s.factors f dt)
 
+-- Rule 7.5: a state that is finite, or what of it is not
+abbrev pub Finiteness : Type 0
+Finiteness = Result Unit Quantity
+
+abbrev pub finite_state : Finiteness
+finite_state = Ok tt
+
 -- Rule 7.5: of spot, z and variance, in this order, the first that is not finite
 abbrev pub first_of_three : Bool → Bool → Bool → Finiteness
-first_of_three false z variance = NonFinite Spot
-first_of_three true false variance = NonFinite Z
-first_of_three true true false = NonFinite Variance
-first_of_three true true true = Finite
+first_of_three false z variance = Err Spot
+first_of_three true false variance = Err Z
+first_of_three true true false = Err Variance
+first_of_three true true true = finite_state
 
 -- Rule 7.5: whether a state is finite; its factors and its lowest spot are not asked
 unfoldable pub finiteness : State → Finiteness

@@ -1,5 +1,6 @@
 -- A schedule, of segments laid end to end, and its time grid. Definitions only.
-use Rattle.std.specs.Prelude.{Bool, false, cond, ◌&&◌, ℕ, zero, suc, pred, ◌+◌, leb, ltb, get_or, Float}
+use Rattle.std.specs.Prelude.{Bool, false, cond, ◌&&◌, ℕ, zero, suc, pred, ◌+◌, leb, ltb, get_or}
+use Rattle.std.specs.Prelude.{Float}
 use Rattle.std.proofs.Math.Option
 use Rattle.std.proofs.Math.Option.{none, some}
 use Rattle.std.specs.Float.{nan, binary64}

@@ -1,5 +1,6 @@
 -- The plain walk of one path, where it stops, and what is claimed of its states. Definitions only.
 use Rattle.std.specs.Prelude.{◌≡◌, true, ℕ, zero, suc, ◌≤◌, ◌<◌, get_or, Float}
+use Rattle.std.specs.Prelude.{Ok, Err}
 use Rattle.std.proofs.Math.Option.{Option, none, some}
 use Rattle.std.specs.Float.{nan}
 use Rattle.std.specs.Float.Ieee.{le}
@@ -7,9 +8,7 @@ use Rattle.numeric.specs.Double.{finite}
 use Rattle.refusal.specs.declared.Quantity.{Quantity}
 use Rattle.model.specs.declared.Simulation.{Simulation}
 use Rattle.model.specs.declared.State.{State}
-use Rattle.model.specs.declared.Finiteness.{Finiteness}
-use Rattle.model.specs.declared.Finiteness.TheVariants.{Finite, NonFinite}
-use Rattle.model.specs.Step.{step, finiteness}
+use Rattle.model.specs.Step.{step, Finiteness, finiteness}
 use Rattle.model.specs.First.{first_some}
 use Rattle.model.specs.TimeGrid.{dt_at, sqrt_dt_at}
 
@@ -34,8 +33,8 @@ pub record Stop : Type 0 where
 
 -- Rule 7.6: a stop at step k, where its state is not finite
 abbrev pub stop_here : ℕ → Finiteness → Option Stop
-stop_here k Finite = none
-stop_here k (NonFinite q) = some (record { step = k; quantity = q })
+stop_here k (Ok _) = none
+stop_here k (Err q) = some (record { step = k; quantity = q })
 
 -- Rule 7.6: the stop among its first n steps
 unfoldable pub stop_within : Walk → ℕ → Option Stop

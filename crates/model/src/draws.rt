@@ -2,7 +2,7 @@
 ghost use Rattle.std.specs.Prelude.{◌≡◌, ◌<◌, ◌+◌, length, get_or};
 ghost use Rattle.std.specs.Float.{nan};
 
-// The draws of one path, lent, and how many of them were taken.
+// The draws of one path, lent, and how many of them were taken. (A reader: the form was asked for.)
 #[derive(Drop)]
 pub struct PathDraws<'a> {
     pub draws: &'a [f64],

@@ -2,12 +2,12 @@
 #![tactic(auto)]
 
 use decimal::Decimal;
-use refusal::Quantity;
 
 pub mod draws;
 pub mod scheme;
 
-// The tables of n weights and n discounts, in the first n places.
+// The tables of n weights and n discounts, in the first n places. Memory is fixed and there is no
+// heap, here and in what follows: so arrays stand side by side, with how much of them is in use.
 #[derive(Clone, Copy)]
 pub struct Kernel {
     pub n: usize,
@@ -15,7 +15,20 @@ pub struct Kernel {
     pub discounts: [f64; 10],
 }
 
-// The model as given: its parameters and the initial factors.
+impl std::marker::Model for Kernel {
+    ghost use Rattle.std.specs.Prelude.{◌≤◌};
+    ghost use Rattle.model.specs.Tables.{Tables};
+
+    ghost Value = { Tables };
+
+    ghost view = { λ k. record { n = k.n; weights = k.weights; discounts = k.discounts } };
+
+    ghost invariant = { λ k. k.n ≤ 10 };
+
+    ghost inverse = { λ v. record { n = v.n; weights = v.weights; discounts = v.discounts } };
+}
+
+// The model as given: its parameters and the initial factors. A C struct, as those of the schedule.
 #[repr(C)]
 #[derive(Clone, Copy)]
 pub struct Model {
@@ -66,7 +79,8 @@ pub struct Schedule {
     pub segments: [Segment; 64],
 }
 
-// A schedule as converted, with the last step of each segment, in the first `count` places.
+// A schedule as converted, with the last step of each segment, in the first `count` places. That
+// its segments end one after the other is no fact of the type: `rates_at` takes any grid.
 #[derive(Clone, Copy)]
 pub struct TimeGrid {
     pub count: usize,
@@ -74,13 +88,6 @@ pub struct TimeGrid {
     pub dt: [f64; 64],
     pub sqrt_dt: [f64; 64],
     pub last: [usize; 64],
-}
-
-// Whether a state is finite, or what of it is not.
-#[derive(Clone, Copy)]
-pub enum Finiteness {
-    Finite,
-    NonFinite(Quantity),
 }
 
 // What does not change along a segment. A divisor is 1 + discount × dt.

@@ -1,6 +1,7 @@
 -- Bounds by powers of two. `Within k x` says that x is finite and that |x| ≤ 2 ^ k, exactly. A
 -- power of two is a double and rounding keeps the order, so the bound of an exact result is the
 -- bound of the rounded one. Assumes nothing.
+use Rattle.std.proofs.lemmas.Float.{T_from_true}
 use Rattle.std.proofs.Common.{◌≡◌, ℕ, suc, ◌+◌, ◌-◌, ◌*◌, ◌^◌, ◌<◌, ◌≤◌, Bool, true, false, cond, ◌&&◌, T, ltb, pos, negsuc, sym, refl, ap, ◌∙◌, subst, zero-le, le_trans, le_of_eq, mul-le-mul_right, zero-lt-suc, mul_assoc, mul_comm, mul-le-mul, mul-pos, one-mul, mul-one, mul_right_comm, le_of_mul-le-mul_right, arith, pow_mono, pow-add}
 use native.Mathlib.Nat.{mul-mul-mul_comm}
 use mathlib.Core.Bool.{beq}
@@ -12,7 +13,7 @@ use lib.Ieee.Exact.{HasValue, round_exact}
 use lib.Ieee.Order.{round_mono}
 use lib.Ieee.Positive.{num, den, den_pos, positive, between}
 use Rattle.numeric.specs.Double.{plus, minus, times, finite}
-use Rattle.numeric.proofs.Finite.{holds, never, sign, neg_finite}
+use Rattle.numeric.proofs.Finite.{never, sign, neg_finite}
 use Rattle.numeric.proofs.Order.{Ordered, le→ordered}
 use Rattle.numeric.proofs.Rounded.{value_finite, value_fraction, round_sign, round_neg}
 
@@ -168,4 +169,4 @@ positive_within k (fin false m e) p h = record {
 }
 
 pub range_within : (j k : ℕ) (x : Float) → le (fin false 1 (negsuc j)) x ≡ true → le x (fin false 1 (pos k)) ≡ true → Within k x
-range_within j k x l h = positive_within k x (between (fin false 1 (negsuc j)) x (fin false 1 (pos k)) tt tt (holds l) (holds h)) h
+range_within j k x l h = positive_within k x (between (fin false 1 (negsuc j)) x (fin false 1 (pos k)) tt tt (T_from_true _ l) (T_from_true _ h)) h

@@ -1,6 +1,7 @@
 -- No double is as near to the exact root of x as `root binary64 x` is (`specs/Correct.antt`).
 -- Assumes nothing.
 use Rattle.std.proofs.Common.{◌≡◌, ℕ, suc, ◌+◌, ◌-◌, ◌*◌, ◌/◌, ◌%◌, ◌^◌, ◌<◌, ◌≤◌, true, false, T, ◌⊎◌, sym, refl, ap, ◌∙◌, subst, inl, inr, le_trans, le_of_eq, lt_of_lt_of_le, le_of_suc-le-suc, lt_of_le_of_lt, le_of_lt, mul-le-mul_right, mul_assoc, add-mul, mul-le-mul_left, mul-lt-mul_of_pos_right, mul-pos, one-mul, lt_of_not-le, le-div_iff_mul-le, mul-one, not-le_of_lt, mul_left_comm, add-one, arith, lit<, ltb→lt, pow_pos, pow_mono, pow-add}
+use Rattle.std.proofs.lemmas.Float.{T_from_true}
 use Prim.Native.Nat.{compare, Ordering}
 use native.Mathlib.Nat.{mul-mul-mul_comm, eq_of_mul-eq-mul_right}
 use lib.Ieee.{Float, nan, inf, fin, binary64, size, fits, nearest}
@@ -185,3 +186,7 @@ root_is_nearest (fin false m e) F P =
     (sym (size_is false m e u))
     (subst (λ (r : Float). NearestDouble false (root_of v) (λ n. ⊥) r) (sym found)
     (nearest_to_root m j (isqrt v) u.digits is (spread (m * 2 ^ j) (isqrt v) X u.under is)))
+
+-- the same of what equals that root
+pub nearest_of_root : (x r : Float) → fits binary64 x ≡ true → r ≡ root binary64 x → RootIsNearest x r
+nearest_of_root x r F e = subst (RootIsNearest x) (sym e) (root_is_nearest x (T_from_true _ F))

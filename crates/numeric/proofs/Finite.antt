@@ -1,16 +1,21 @@
 -- What a finite result says of its operands, and the sign of a float. Assumes nothing.
-use Rattle.std.proofs.Common.{◌≡◌, Bool, true, false, cond, T, eqb, sym, refl, ap, ◌∙◌, subst}
+use Rattle.std.proofs.Common.{◌≡◌, Bool, true, false, cond, not, T, eqb, sym, refl, ap, ◌∙◌}
 use mathlib.Core.Bool.{beq, false≢true}
-use lib.Ieee.{Float, nan, inf, fin, unlike, neg, add, sub, mul}
+use lib.Ieee.{Float, nan, inf, fin, is_nan, unlike, neg, add, sub, mul}
 use Rattle.numeric.specs.Double.{plus, minus, times, finite}
 
 -- ---- tests
 
-pub holds : {b : Bool} → b ≡ true → T b
-holds p = subst T (sym p) tt
-
 pub never : {b : Bool} {P : Type 0} → b ≡ false → b ≡ true → P
 never p q = absurd (false≢true (sym p ∙ q))
+
+-- ---- a finite double is a number
+
+pub no_nan_of_finite : (x : Float) → finite x ≡ true → T (not (is_nan x))
+unfolding is_nan
+no_nan_of_finite nan h = never refl h
+no_nan_of_finite (inf s) h = tt
+no_nan_of_finite (fin s m e) h = tt
 
 -- ---- the sign, set at -0 too; a NaN counts as having none
 

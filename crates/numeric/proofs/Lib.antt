@@ -15,6 +15,7 @@ pub mod Rounded
 pub mod Monotone
 pub mod Bounds
 pub mod Tables
+pub mod Parts
 pub mod Above
 pub mod Minimum
-pub mod Normal
+pub mod Roots

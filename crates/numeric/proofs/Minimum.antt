@@ -1,36 +1,16 @@
 -- The smaller of two finite doubles is one of them, and at most each. Assumes nothing.
-use Rattle.std.proofs.Common.{◌≡◌, ℕ, ◌+◌, ◌*◌, ◌≤◌, Bool, true, false, cond, not, ◌||◌, ltb, ◌⊎◌, refl, ap, ◌∙◌, inl, inr, ⊎_elim, arith, nltb→le}
-use lib.Ieee.{Float, nan, inf, fin, lt, le, eq, below, up, down}
+use Rattle.std.proofs.Common.{◌≡◌, Bool, true, false, cond, ◌||◌, ◌⊎◌, refl, ap, ◌∙◌, inl, inr, ⊎_elim}
+use Rattle.std.proofs.lemmas.Float.{T_from_true, T_from_false, le_of_lt, le_of_not-lt, le_refl as float_le_refl}
+use lib.Ieee.Bits.{is_true}
+use lib.Ieee.{Float, lt, le}
 use Rattle.numeric.specs.Double.{smaller, finite}
-use Rattle.numeric.proofs.Finite.{holds, never, sign}
-use Rattle.numeric.proofs.Order.{Ordered, ordered_refl, ordered→le, le_through}
+use Rattle.numeric.proofs.Finite.{no_nan_of_finite}
+use Rattle.numeric.proofs.Order.{le_through}
 
 -- ---- of two finite doubles one is at most the other
 
-not_less : (m n : ℕ) → ltb m n ≡ false → n ≤ m
-not_less m n h = nltb→le m n (holds (ap not h))
-
-not_below : (s : Bool) (a : ℕ) (t : Bool) (b : ℕ) → below t b s a ≡ false → Ordered s a t b
-not_below false a false b h = not_less b a h
-not_below false a true b h = let z : b + a ≤ 0 = not_less 0 (b + a) h in (omega arith, omega arith)
-not_below true a false b h = tt
-not_below true a true b h = not_less a b h
-
-not_lt : (x y : Float) → finite x ≡ true → finite y ≡ true → lt y x ≡ false → le x y ≡ true
-unfolding lt
-not_lt nan y p q h = never refl p
-not_lt (inf s) y p q h = never refl p
-not_lt (fin s m e) nan p q h = never refl q
-not_lt (fin s m e) (inf t) p q h = never refl q
-not_lt (fin s m e) (fin t n d) p q h =
-    ordered→le (fin s m e) (fin t n d) p q (not_below s (m * up e * down d) t (n * up d * down e) h)
-
-lt_le : (x y : Float) → lt x y ≡ true → le x y ≡ true
-unfolding le
-lt_le x y h = ap (λ (b : Bool). b || eq x y) h
-
 pub le_refl : (x : Float) → finite x ≡ true → le x x ≡ true
-le_refl x h = ordered→le x x h h (ordered_refl (sign x) _)
+le_refl x h = is_true (le x x) (float_le_refl x (no_nan_of_finite x h))
 
 or_first : (a b : Bool) → (b ≡ true → a ≡ true) → a ≡ (a || b)
 or_first true b h = refl
@@ -48,8 +28,9 @@ module _ (x y : Float) (fx : finite x ≡ true) (fy : finite y ≡ true) where
   by_test : (b : Bool) → lt y x ≡ b
       → ((smaller x y ≡ x) × (le x y ≡ true)) ⊎ ((smaller x y ≡ y) × (le y x ≡ true))
   unfolding smaller
-  by_test true h = inr (ap (λ (b : Bool). cond b y x) h, lt_le y x h)
-  by_test false h = inl (ap (λ (b : Bool). cond b y x) h, not_lt x y fx fy h)
+  by_test true h = inr (ap (λ (b : Bool). cond b y x) h, is_true _ (le_of_lt y x (T_from_true _ h)))
+  by_test false h =
+      inl (ap (λ (b : Bool). cond b y x) h, is_true _ (le_of_not-lt y x (no_nan_of_finite y fy) (no_nan_of_finite x fx) (T_from_false _ h)))
 
   pub smaller_is : ((smaller x y ≡ x) × (le x y ≡ true)) ⊎ ((smaller x y ≡ y) × (le y x ≡ true))
   smaller_is = by_test (lt y x) refl

@@ -1,13 +1,14 @@
 -- The order of finite floats is that of the fractions ±`num` / `den` that they stand for. So `le`
 -- is transitive, and `neg` turns it round. Assumes nothing.
-use Rattle.std.proofs.Common.{◌≡◌, ℕ, ◌+◌, ◌*◌, ◌<◌, ◌≤◌, Bool, true, false, not, ◌&&◌, ◌||◌, T, eqb, ltb, ◌⊎◌, sym, refl, inl, inr, zero-le, le_trans, le_of_eq, le_refl, le_of_lt, mul-le-mul_right, eq-zero-or-pos, eq-or-lt_of_le, zero-mul, le_of_mul-le-mul_right, arith, eqb→eq, ltb→lt, lt→ltb}
+use Rattle.std.proofs.Common.{◌≡◌, ℕ, ◌+◌, ◌*◌, ◌<◌, ◌≤◌, Bool, true, false, not, ◌&&◌, ◌||◌, T, eqb, ltb, ◌⊎◌, sym, refl, inl, inr, le_trans, le_of_eq, le_refl, le_of_lt, mul-le-mul_right, eq-zero-or-pos, eq-or-lt_of_le, zero-mul, le_of_mul-le-mul_right, arith, eqb→eq, ltb→lt, lt→ltb}
+use Rattle.std.proofs.lemmas.Float.{T_from_true, le_trans as float_le_trans}
 use mathlib.Core.Bool.{beq}
 use lib.Ieee.{Float, nan, inf, fin, up, down, below, level, le, neg}
 use lib.Ieee.Bits.{is_true}
-use lib.Ieee.Fits.{down_pos, and_i, and_l, and_r, eq→eqb}
-use lib.Ieee.Positive.{num, den, through}
+use lib.Ieee.Fits.{and_i, and_l, and_r, eq→eqb}
+use lib.Ieee.Positive.{num, den}
 use Rattle.numeric.specs.Double.{finite}
-use Rattle.numeric.proofs.Finite.{holds, never, sign}
+use Rattle.numeric.proofs.Finite.{never, sign}
 
 -- ---- ±a ≤ ±b, by the signs: -a ≤ b whatever a and b are, and a ≤ -b for two zeros alone
 
@@ -73,7 +74,7 @@ le→ordered nan y p q h = never refl p
 le→ordered (inf s) y p q h = never refl p
 le→ordered (fin s m e) nan p q h = never refl q
 le→ordered (fin s m e) (inf t) p q h = never refl q
-le→ordered (fin s m e) (fin t n d) p q h = below→ordered s (m * up e * down d) t (n * up d * down e) (holds h)
+le→ordered (fin s m e) (fin t n d) p q h = below→ordered s (m * up e * down d) t (n * up d * down e) (T_from_true _ h)
 
 pub ordered→le : (x y : Float) → finite x ≡ true → finite y ≡ true → Ordered (sign x) (num x * den y) (sign y) (num y * den x) → le x y ≡ true
 unfolding le
@@ -89,75 +90,16 @@ pub ordered_refl : (s : Bool) (a : ℕ) → Ordered s a s a
 ordered_refl false a = le_refl a
 ordered_refl true a = le_refl a
 
--- ---- three fractions
-
 -- a fraction x / q that is 0 is 0 over any divisor
 pub zero_over : (x q r : ℕ) → 0 < q → x * q ≤ 0 → x * r ≤ 0
 zero_over x q r Q h =
     let z : x ≤ 0 = le_of_mul-le-mul_right (le_trans h (le_of_eq (sym (zero-mul q)))) Q in
     le_trans (mul-le-mul_right r z) (le_of_eq (zero-mul r))
 
-ordered_through : (s t u : Bool) (x y z p q r : ℕ) → 0 < p → 0 < q → 0 < r → Ordered s (x * q) t (y * p) → Ordered t (y * r) u (z * q) → Ordered s (x * r) u (z * p)
-ordered_through false false false x y z p q r P Q R h k = through x y z p q r Q h k
-ordered_through false false true x y z p q r P Q R h k = (zero_over x q r Q (le_trans h (zero_over y r p R k.0)), zero_over z q p Q k.1)
-ordered_through false true false x y z p q r P Q R h k = le_trans (zero_over x q r Q h.0) zero-le
-ordered_through false true true x y z p q r P Q R h k = (zero_over x q r Q h.0, zero_over z q p Q (le_trans k (zero_over y p r P h.1)))
-ordered_through true false false x y z p q r P Q R h k = tt
-ordered_through true false true x y z p q r P Q R h k = le_trans (zero_over z q p Q k.1) zero-le
-ordered_through true true false x y z p q r P Q R h k = tt
-ordered_through true true true x y z p q r P Q R h k = through z y x r q p Q k h
-
 -- ---- `le` is transitive, infinities included
 
-infinite : (s t u : Bool) → T (s && not t || beq s t) → T (t && not u || beq t u) → T (s && not u || beq s u)
-infinite true true true h k = tt
-infinite true true false h k = tt
-infinite true false true h k = tt
-infinite true false false h k = tt
-infinite false true u h k = absurd h
-infinite false false true h k = absurd k
-infinite false false false h k = tt
-
-over_infinity : (s t : Bool) → T (s && not t || beq s t) → T (t || false) → T (s || false)
-over_infinity true t h k = tt
-over_infinity false true h k = absurd h
-over_infinity false false h k = absurd k
-
-under_infinity : (t u : Bool) → T (not t || false) → T (t && not u || beq t u) → T (not u || false)
-under_infinity true u h k = absurd h
-under_infinity false true h k = absurd k
-under_infinity false false h k = tt
-
-between_infinities : (s u : Bool) → T (s || false) → T (not u || false) → T (s && not u || beq s u)
-between_infinities true true h k = absurd k
-between_infinities true false h k = tt
-between_infinities false u h k = absurd h
-
-no_way : (t : Bool) {P : Type 0} → T (not t || false) → T (t || false) → P
-no_way true h k = absurd h
-no_way false h k = absurd k
-
 pub le_through : (x y z : Float) → le x y ≡ true → le y z ≡ true → le x z ≡ true
-unfolding le
-le_through nan y z h k = never refl h
-le_through (inf s) nan z h k = never refl h
-le_through (inf s) (inf t) nan h k = never refl k
-le_through (inf s) (inf t) (inf u) h k = is_true (s && not u || beq s u) (infinite s t u (holds h) (holds k))
-le_through (inf s) (inf t) (fin u o c) h k = is_true (s || false) (over_infinity s t (holds h) (holds k))
-le_through (inf s) (fin t n d) nan h k = never refl k
-le_through (inf s) (fin t n d) (inf u) h k = is_true (s && not u || beq s u) (between_infinities s u (holds h) (holds k))
-le_through (inf s) (fin t n d) (fin u o c) h k = h
-le_through (fin s m e) nan z h k = never refl h
-le_through (fin s m e) (inf t) nan h k = never refl k
-le_through (fin s m e) (inf t) (inf u) h k = is_true (not u || false) (under_infinity t u (holds h) (holds k))
-le_through (fin s m e) (inf t) (fin u o c) h k = no_way t (holds h) (holds k)
-le_through (fin s m e) (fin t n d) nan h k = never refl k
-le_through (fin s m e) (fin t n d) (inf u) h k = k
-le_through (fin s m e) (fin t n d) (fin u o c) h k =
-    ordered→le (fin s m e) (fin u o c) refl refl
-    (ordered_through s t u (m * up e) (n * up d) (o * up c) (down e) (down d) (down c) (down_pos e) (down_pos d) (down_pos c)
-    (le→ordered (fin s m e) (fin t n d) refl refl h)
-    (le→ordered (fin t n d) (fin u o c) refl refl k))
+le_through x y z h k = is_true (le x z) (float_le_trans x y z (T_from_true _ h) (T_from_true _ k))
 
 -- ---- `neg` turns the order round
 
@@ -183,10 +125,10 @@ le_neg nan nan h = never refl h
 le_neg nan (inf t) h = never refl h
 le_neg nan (fin t n d) h = never refl h
 le_neg (inf s) nan h = never refl h
-le_neg (inf s) (inf t) h = is_true (not s && not (not t) || beq (not s) (not t)) (turned s t (holds h))
+le_neg (inf s) (inf t) h = is_true (not s && not (not t) || beq (not s) (not t)) (turned s t (T_from_true _ h))
 le_neg (inf s) (fin t n d) h = h
 le_neg (fin s m e) nan h = never refl h
-le_neg (fin s m e) (inf t) h = is_true (not (not t) || false) (twice t (holds h))
+le_neg (fin s m e) (inf t) h = is_true (not (not t) || false) (twice t (T_from_true _ h))
 le_neg (fin s m e) (fin t n d) h =
     ordered→le (fin (not s) m e) (fin (not t) n d) refl refl
     (ordered_neg s (m * up e * down d) t (n * up d * down e) (le→ordered (fin t n d) (fin s m e) refl refl h))

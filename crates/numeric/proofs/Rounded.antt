@@ -1,5 +1,6 @@
 -- `round` of a fraction with a sign: the result has that sign, is no NaN, keeps the order, and is
 -- the fraction itself where the format holds it. Assumes nothing.
+use Rattle.std.proofs.lemmas.Float.{T_from_true}
 use Rattle.std.proofs.Common.{◌≡◌, ℕ, zero, suc, ◌+◌, ◌-◌, ◌*◌, ◌%◌, ◌^◌, ◌<◌, ◌≤◌, Bool, true, false, cond, ◌&&◌, T, eqb, ltb, leb, ℤ, pos, negsuc, sym, refl, ap, ◌∙◌, subst, zero-le, le_trans, le_of_eq, le_of_suc-le-suc, mul_assoc, mul_comm, le_antisymm, lt_of_mul-lt-mul_right, mul-lt-mul_of_pos_right, lt_of_not-le, zero-mul, mul-one, mul_right_comm, not-le_of_lt, le_of_mul-le-mul_right, ltb→lt, leb→le, pow_pos, pow-add}
 use native.Mathlib.Nat.{eq_of_mul-eq-mul_right}
 use lib.Pow.{pow-lt}
@@ -11,7 +12,7 @@ use lib.Ieee.Exact.{HasValue, round_exact}
 use lib.Ieee.Order.{round_mono, drop, kept}
 use lib.Ieee.Positive.{num, den}
 use Rattle.numeric.specs.Double.{finite}
-use Rattle.numeric.proofs.Finite.{holds, never, sign}
+use Rattle.numeric.proofs.Finite.{never, sign}
 use Rattle.numeric.proofs.Order.{Ordered, ordered→le, ordered_refl, zero_over, le_neg}
 
 -- ---- a value, by its sign and its fraction
@@ -190,7 +191,7 @@ held f nan a c C p h e = never refl p
 held f (inf s) a c C p h e = never refl p
 held f (fin s m e) a c C p h v =
     let l = 2 ^ low f in
-    let u = shift_of f s m e (holds h) in
+    let u = shift_of f s m e (T_from_true _ h) in
     let j = u.shift in
     round_exact f s a c m j C u.digits u.under
     (eq_of_mul-eq-mul_right (down e) (down_pos e) (a * l) (m * 2 ^ j * c)

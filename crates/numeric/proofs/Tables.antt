@@ -26,13 +26,6 @@ module _ {A : Type 0} where
     take_is_tabulate l long entry =
         is_tabulate (take n l) (length-take-le n l long) (λ i h. get_or-take n l i d h ∙ entry i h)
 
-  -- a copy of a list at the front of another
-  pub take_is : (d : A) (l m : List A) → length l ≤ length m → ((i : ℕ) → i < length l → get_or m i d ≡ get_or l i d) → take (length l) m ≡ l
-  take_is d l m long entry =
-      let n = length l in
-      let same : length (take n m) ≡ n = length-take-le n m long in
-      ext_get_or d (take n m) l same (λ i h. let b : i < n = omega arith in get_or-take n m i d b ∙ entry i b)
-
   -- two tables with the same entries
   pub tabulate_same : (d : A) (n : ℕ) (f g : ℕ → A) → ((i : ℕ) → i < n → f i ≡ g i) → tabulate n f ≡ tabulate n g
   tabulate_same d n f g same =

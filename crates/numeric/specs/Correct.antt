@@ -1,7 +1,8 @@
 -- What it means that a double is the one nearest to an exact number, said without the steps that
 -- find it. Sizes are counted in the smallest double, 2 ^ -1074, of which every double is a whole
 -- number. Definitions only.
-use Rattle.std.specs.Prelude.{◌≡◌, ℕ, ◌+◌, ◌-◌, ◌*◌, ◌/◌, ◌^◌, ◌<◌, ◌≤◌, Bool, false, T, ℤ, ◌≢◌, Float}
+use Rattle.std.specs.Prelude.{◌≡◌, ◌≢◌, ℕ, ℤ, ◌+◌, ◌-◌, ◌*◌, ◌/◌, ◌^◌, ◌<◌, ◌≤◌, Bool, false, T}
+use Rattle.std.specs.Prelude.{Float}
 use Rattle.std.specs.Float.{nan, inf, fin, binary64}
 use Rattle.std.specs.Float.Ieee.{up, down, fits, size}
 use Rattle.std.specs.Float.Ieee.Positive.{positive}
@@ -50,7 +51,8 @@ pub record NearestDouble (s : Bool) (x : Exact) (AtTie : ℕ → Type 0) (r : Fl
   pub is : r ≡ fin s m e
   pub double : T (fits binary64 r)
   -- the size of a double n * 2 ^ k is exact: the division in `size_of` leaves no remainder
-  pub exact : (n : ℕ) (k : ℤ) → IsDouble n k → size_of (fin false n k) * down k ≡ n * up k * 2 ^ 1074
+  pub exact : (n : ℕ) (k : ℤ) → IsDouble n k
+      → size_of (fin false n k) * down k ≡ n * up k * 2 ^ 1074
   -- and no such double is nearer than r; one of the other sign is further off than zero is
   pub nearest : (n : ℕ) (k : ℤ) → IsDouble n k
       → NotNearer x (AtTie (size_of r)) (size_of r) (size_of (fin false n k))

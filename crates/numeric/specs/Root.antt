@@ -1,7 +1,8 @@
 -- The square root of IEEE 754: the value of the format that is nearest to the exact root, a tie to
 -- the even one; for a double there is never a tie (`Correct`). Over the values of `lib.Ieee`, in
 -- the style of its `round`. Definitions only.
-use Rattle.std.specs.Prelude.{ℕ, zero, suc, ◌+◌, ◌-◌, ◌*◌, ◌/◌, ◌^◌, true, false, cond, nat_le, Float}
+use Rattle.std.specs.Prelude.{ℕ, zero, suc, ◌+◌, ◌-◌, ◌*◌, ◌/◌, ◌^◌, nat_le}
+use Rattle.std.specs.Prelude.{true, false, cond, Float}
 use Prim.Native.Nat.{compare}
 use Rattle.std.specs.Float.{nan, inf, fin, Format}
 use Rattle.std.specs.Float.Ieee.{prec, low, up, down, size, nearest, units}

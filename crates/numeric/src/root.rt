@@ -1,16 +1,17 @@
 // The square root, correctly rounded, with no square root in hardware. A Newton iteration in
 // floating point gives a guess, of which nothing is proved. Exact integer arithmetic confirms it,
-// or the root is searched for (nearest.rt).
+// or finds the root by itself, which takes longer (nearest.rt).
 ghost use Rattle.std.specs.Prelude.{◌≡◌, ◌*◌, ◌^◌, ◌<◌, ◌≤◌, false, from_bits};
 ghost use Rattle.std.specs.Float.{binary64};
 ghost use Rattle.std.specs.Float.Ieee.{units};
 ghost use Rattle.numeric.specs.Root.{root, root_units};
 ghost use Rattle.numeric.specs.Inner.Step.{Digits};
 
-use crate::{HIDDEN, nearest};
+use crate::{HIDDEN, bits_of, digits_of, nearest};
 
 // The root of +0 or of a subnormal number: its digits are shifted up until the leading one stands
 // where a normal number has it.
+#[tactic(auto, using(crate::proofs::Roots::small_laws))]
 pub fn small(bits: u64) -> f64
     requires { bits < 2 ^ 52 }
     ensures { result ≡ root binary64 (from_bits binary64 bits) }
@@ -18,21 +19,23 @@ pub fn small(bits: u64) -> f64
     if bits == 0 {
         return 0.0;
     }
-    let up = u64::leading_zeros(bits) as u64 - 11;
+    let up = bits.leading_zeros() as u64 - 11;
     let digits = bits << up;
     let e = 1074 - up;
     scaled(digits, e, guess(digits + (1022 + e % 2) * HIDDEN))
 }
 
 // The root of a normal number above zero.
+#[tactic(auto, using(crate::proofs::Roots::root_of_normal))]
 pub fn normal(bits: u64) -> f64
     requires { (2 ^ 52 ≤ bits) × (bits < 2047 * 2 ^ 52) }
     ensures { result ≡ root binary64 (from_bits binary64 bits) }
 {
-    scaled(bits % HIDDEN + HIDDEN, bits / HIDDEN + 1073, guess(bits))
+    scaled(digits_of(bits), bits / HIDDEN + 1073, guess(bits))
 }
 
 // -0 is its own root, and a number below zero has none.
+#[tactic(auto, using(crate::proofs::Roots::negative_laws))]
 pub fn negative(bits: u64) -> f64
     requires { (2 ^ 63 ≤ bits) × (bits ≤ 4095 * 2 ^ 52) }
     ensures { result ≡ root binary64 (from_bits binary64 bits) }
@@ -48,6 +51,7 @@ pub fn negative(bits: u64) -> f64
 // those of the number times the square of such a unit. With an even exponent, 52 + 2k, the root is
 // that of m * 2^52, k digits further up. `guess` may be any double. Where it has the root's digits
 // and exponent field it is the root.
+#[tactic(auto, using(crate::proofs::Roots::scaled_laws))]
 fn scaled(digits: u64, e: u64, guess: f64) -> f64
     requires digits { Digits digits }
     requires le_e { (1022 ≤ e) × (e ≤ 3119) }
@@ -55,21 +59,20 @@ fn scaled(digits: u64, e: u64, guess: f64) -> f64
 {
     let m = digits * (1 + e % 2);
     let k = e / 2 - 26;
-    if guess != guess {
-        return placed(nearest::search(m), k);
+    let bits = bits_of(guess);
+    let s = digits_of(bits);
+    if !nearest::is_nearest(m, s) {
+        return placed(nearest::nearest_root(m), k);
     }
-    let bits = f64::to_bits(guess);
-    let s = bits % HIDDEN + HIDDEN;
-    if nearest::is_nearest(m, s) {
-        if bits / HIDDEN == k + 1 {
-            return guess;
-        }
-        return placed(s, k);
+    if bits / HIDDEN == k + 1 {
+        guess
+    } else {
+        placed(s, k)
     }
-    placed(nearest::search(m), k)
 }
 
 // The double of s * 2^k units.
+#[tactic(auto, using(crate::proofs::Roots::placed_laws))]
 fn placed(s: u64, k: u64) -> f64
     requires digits { Digits s }
     requires k_bound { k ≤ 2045 }
@@ -84,6 +87,7 @@ fn placed(s: u64, k: u64) -> f64
 // `upper` is the upper half of s's digits (Veltkamp), so that x - s * s is exact. At a normal
 // number the guess is wrong in about one case of seven hundred. Nothing depends on that but the
 // time.
+#[tactic(auto, using(crate::proofs::Patterns::no_nan))]
 fn guess(bits: u64) -> f64
     requires { bits < 2047 * 2 ^ 52 }
 {

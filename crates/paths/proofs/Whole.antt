@@ -10,7 +10,12 @@ use Rattle.numeric.proofs.Tables.{is_tabulate}
 use Rattle.walks.specs.Batch.{Batch}
 use Rattle.paths.specs.Run.{entry_after, table_after}
 
-pub whole : (b : Batch) (lent seen : List Float) → 1 ≤ b.simulation.grid.count → length lent ≡ b.paths * b.simulation.grid.count → length seen ≡ length lent → ((q j : ℕ) → q < b.paths → j < b.simulation.grid.count → get_or seen (q * b.simulation.grid.count + j) nan ≡ entry_after b (suc q) (suc j) (get_or lent (q * b.simulation.grid.count + j) nan)) → seen ≡ table_after b lent
+pub whole : (b : Batch) (lent seen : List Float) → 1 ≤ b.simulation.grid.count → length lent
+    ≡ b.paths * b.simulation.grid.count → length seen ≡ length lent
+    → ((q j : ℕ) → q < b.paths → j < b.simulation.grid.count
+    → get_or seen (q * b.simulation.grid.count + j) nan
+    ≡ entry_after b (suc q) (suc j) (get_or lent (q * b.simulation.grid.count + j) nan)) → seen
+    ≡ table_after b lent
 unfolding table_after
 whole b lent seen one long same entries =
     is_tabulate nan (length lent) _ seen same

@@ -1,2 +1,3 @@
 -- What only proofs and inner contracts use: nothing here need be believed.
 pub mod Handed
+pub mod Before

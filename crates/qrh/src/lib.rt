@@ -1,32 +1,32 @@
 // The outer calls. An answer begins with its number, 0 where the call is answered and else the
-// refusal's, and its place, 0 where there is none. The crate qrh_c exports them under C names.
+// refusal's, and its place, 0 where there is none. The crate qrh_c exports ten calls of
+// C names over them.
 #![tactic(auto)]
 
-ghost use Rattle.std.specs.Prelude.{◌≡◌, true, false};
+ghost use Rattle.std.specs.Prelude.{◌≡◌};
 ghost use Rattle.std.specs.Float.{binary64};
 ghost use Rattle.numeric.specs.Correct.{RootIsNearest};
 ghost use Rattle.numeric.specs.Root.{root};
 ghost use Rattle.decimal.specs.Decimal.{convert, ConvertsToNearest};
-ghost use Rattle.model.specs.Simulation.{given};
+ghost use Rattle.admission.specs.Inner.Given.{given_of};
 ghost use Rattle.trace.specs.Trace.{tables};
 ghost use Rattle.trace.specs.Call.{trace_inputs, TraceAnswered};
-ghost use Rattle.vanilla.specs.declared.Terms.TheVariants.{Vanilla};
 ghost use Rattle.vanilla.specs.Call.{vanilla_inputs, VanillaAnswered};
 ghost use Rattle.exponentiation.specs.Call.{matrix_inputs, ExponentialAnswered};
 ghost use Rattle.vix_value.specs.Call.{vix_inputs, VixValueAnswered};
 ghost use Rattle.vix_batch.specs.Call.{vix_batch_inputs, VixBatchAnswered};
 ghost use Rattle.qrh.specs.Conversion.{conversion};
 
-use decimal::{Converted, Decimal};
+use admission::Given;
+use decimal::Decimal;
 use exponentiation::Exponentiation;
-use model::{Model, Schedule};
+use model::Model;
 use trace::Tracing;
-use vanilla::{Estimate, Terms};
-use vix_batch::{VixEstimate, VixPayoff};
+use vanilla::Estimate;
+use vix_batch::VixEstimate;
 use vix_value::{Factors, VixValue};
 
-pub mod down_and_out;
-
+// A conversion. A C struct, as every answer: C has no Result.
 #[repr(C)]
 #[derive(Clone, Copy)]
 pub struct Conversion {
@@ -46,13 +46,9 @@ pub fn qrh_convert(d: Decimal) -> Conversion
         place: [0; 4],
         value: 0.0,
     };
-    match decimal::decimal_to_f64(d) {
-        Converted::Value(value) => {
-            answer.value = value;
-        }
-        Converted::ScaleTooLarge => {
-            answer.number = 1;
-        }
+    match d.to_f64() {
+        Some(value) => answer.value = value,
+        None => answer.number = 1,
     }
     answer
 }
@@ -65,103 +61,32 @@ pub fn qrh_sqrt(x: f64) -> f64
 }
 
 pub fn qrh_trace(
-    weights: &[f64],
-    discounts: &[f64],
-    model: Model,
-    schedule: Schedule,
+    given: &Given,
     draws: &[f64],
     spots: &mut [f64],
     variances: &mut [f64],
     z: &mut [f64],
     factors: &mut [f64],
 ) -> Tracing
-    ensures { TraceAnswered
-        (trace_inputs (given weights.now discounts.now model schedule)
-        draws.now)
-        (tables spots.old variances.old z.old
-        factors.old)
-        (tables spots.new variances.new z.new
-        factors.new) result }
+    ensures { TraceAnswered (trace_inputs (given_of given.now) draws.now)
+        (tables spots.old variances.old z.old factors.old)
+        (tables spots.new variances.new z.new factors.new) result }
 {
-    trace::trace(
-        weights, discounts, model, schedule, draws, spots, variances, z, factors,
-    )
+    trace::trace(given, draws, spots, variances, z, factors)
 }
 
-// A vanilla batch: a row of observations a path, a column a segment.
+// A batch of calls, puts or down-and-out puts on the spot, ordinary or mirrored, as the order says:
+// a row of observations a path, a column a segment. qrh_c has a call for each kind.
 pub fn qrh_vanilla(
-    weights: &[f64],
-    discounts: &[f64],
-    model: Model,
-    schedule: Schedule,
-    put: bool,
-    strike: Decimal,
-    paths: usize,
+    given: &Given,
+    order: vanilla::Order,
     draws: &[f64],
     observations: &mut [f64],
 ) -> Estimate
-    ensures { VanillaAnswered
-        (vanilla_inputs (given weights.now discounts.now model schedule)
-        (record { terms = Vanilla put strike; mirrored = false; paths = paths })
-        draws.now)
+    ensures { VanillaAnswered (vanilla_inputs (given_of given.now) order draws.now)
         observations.old observations.new result }
 {
-    let terms = Terms::Vanilla {
-        put: put,
-        strike: strike,
-    };
-    let order = vanilla::Order {
-        terms: terms,
-        mirrored: false,
-        paths: paths,
-    };
-    vanilla::price(
-        weights,
-        discounts,
-        model,
-        schedule,
-        order,
-        draws,
-        observations,
-    )
-}
-
-// A mirrored vanilla batch: path 2i has the draws of path 2i - 1, negated.
-pub fn qrh_mirrored(
-    weights: &[f64],
-    discounts: &[f64],
-    model: Model,
-    schedule: Schedule,
-    put: bool,
-    strike: Decimal,
-    paths: usize,
-    draws: &[f64],
-    observations: &mut [f64],
-) -> Estimate
-    ensures { VanillaAnswered
-        (vanilla_inputs (given weights.now discounts.now model schedule)
-        (record { terms = Vanilla put strike; mirrored = true; paths = paths })
-        draws.now)
-        observations.old observations.new result }
-{
-    let terms = Terms::Vanilla {
-        put: put,
-        strike: strike,
-    };
-    let order = vanilla::Order {
-        terms: terms,
-        mirrored: true,
-        paths: paths,
-    };
-    vanilla::price(
-        weights,
-        discounts,
-        model,
-        schedule,
-        order,
-        draws,
-        observations,
-    )
+    vanilla::price(given, order, draws, observations)
 }
 
 pub fn qrh_exponential(
@@ -194,36 +119,14 @@ pub fn qrh_vix(
 
 // A VIX batch: a row of raw VIX squared a path, a column a segment.
 pub fn qrh_vix_batch(
-    weights: &[f64],
-    discounts: &[f64],
-    model: Model,
-    schedule: Schedule,
-    window: Decimal,
-    payoff: VixPayoff,
-    paths: usize,
+    given: &Given,
+    order: vix_batch::Order,
     draws: &[f64],
     workspace: &mut [f64],
     observations: &mut [f64],
 ) -> VixEstimate
-    ensures { VixBatchAnswered
-        (vix_batch_inputs (given weights.now discounts.now model schedule)
-        (record { window = window; payoff = payoff; paths = paths }) draws.now)
-        workspace.old workspace.new
-        observations.old observations.new result }
+    ensures { VixBatchAnswered (vix_batch_inputs (given_of given.now) order draws.now)
+        workspace.old workspace.new observations.old observations.new result }
 {
-    let order = vix_batch::Order {
-        window: window,
-        payoff: payoff,
-        paths: paths,
-    };
-    vix_batch::price(
-        weights,
-        discounts,
-        model,
-        schedule,
-        order,
-        draws,
-        workspace,
-        observations,
-    )
+    vix_batch::price(given, order, draws, workspace, observations)
 }

@@ -4,9 +4,10 @@ ghost use Rattle.model.specs.Simulation.{given};
 ghost use Rattle.vanilla.specs.declared.Terms.TheVariants.{DownAndOut};
 ghost use Rattle.vanilla.specs.Call.{vanilla_inputs, VanillaAnswered};
 
+use admission::Given;
 use decimal::Decimal;
 use model::{Model, Schedule};
-use vanilla::Estimate;
+use vanilla::{Estimate, Order, Terms};
 
 // A batch of puts that vanish once the spot is at the barrier or below.
 #[unsafe(no_mangle)]
@@ -27,17 +28,18 @@ pub extern "C" fn qrh_down_and_out(
         draws.now)
         observations.old observations.new result }
 {
-    qrh::down_and_out::qrh_down_and_out(
+    let given = Given {
         weights,
         discounts,
         model,
         schedule,
-        strike,
-        barrier,
+    };
+    let order = Order {
+        terms: Terms::DownAndOut { strike, barrier },
+        mirrored: false,
         paths,
-        draws,
-        observations,
-    )
+    };
+    qrh::qrh_vanilla(&given, order, draws, observations)
 }
 
 // A mirrored batch of them: path 2i has the draws of path 2i - 1, negated.
@@ -59,15 +61,16 @@ pub extern "C" fn qrh_mirrored_down_and_out(
         draws.now)
         observations.old observations.new result }
 {
-    qrh::down_and_out::qrh_mirrored_down_and_out(
+    let given = Given {
         weights,
         discounts,
         model,
         schedule,
-        strike,
-        barrier,
+    };
+    let order = Order {
+        terms: Terms::DownAndOut { strike, barrier },
+        mirrored: true,
         paths,
-        draws,
-        observations,
-    )
+    };
+    qrh::qrh_vanilla(&given, order, draws, observations)
 }

@@ -1,5 +1,6 @@
-// The outer calls under their C names (include/qrh.h), as C, Rust and Python programs link them:
-// each is the call of the crate qrh, with its clauses.
+// The outer calls under their C names (include/qrh.h), as C, Rust and Python programs link them.
+// Each makes of what C hands it what the call of the crate qrh is given. Their parameters, and that
+// there is a call for each kind of batch, are C's interface.
 #![tactic(auto)]
 
 ghost use Rattle.std.specs.Prelude.{◌≡◌, true, false};
@@ -17,12 +18,13 @@ ghost use Rattle.vix_value.specs.Call.{vix_inputs, VixValueAnswered};
 ghost use Rattle.vix_batch.specs.Call.{vix_batch_inputs, VixBatchAnswered};
 ghost use Rattle.qrh.specs.Conversion.{conversion};
 
+use admission::Given;
 use decimal::Decimal;
 use exponentiation::Exponentiation;
 use model::{Model, Schedule};
 use qrh::Conversion;
 use trace::Tracing;
-use vanilla::Estimate;
+use vanilla::{Estimate, Order, Terms};
 use vix_batch::{VixEstimate, VixPayoff};
 use vix_value::{Factors, VixValue};
 
@@ -64,9 +66,13 @@ pub extern "C" fn qrh_trace(
         (tables spots.new variances.new z.new
         factors.new) result }
 {
-    qrh::qrh_trace(
-        weights, discounts, model, schedule, draws, spots, variances, z, factors,
-    )
+    let given = Given {
+        weights,
+        discounts,
+        model,
+        schedule,
+    };
+    qrh::qrh_trace(&given, draws, spots, variances, z, factors)
 }
 
 // A vanilla batch: a row of observations a path, a column a segment.
@@ -88,17 +94,18 @@ pub extern "C" fn qrh_vanilla(
         draws.now)
         observations.old observations.new result }
 {
-    qrh::qrh_vanilla(
+    let given = Given {
         weights,
         discounts,
         model,
         schedule,
-        put,
-        strike,
+    };
+    let order = Order {
+        terms: Terms::Vanilla { put, strike },
+        mirrored: false,
         paths,
-        draws,
-        observations,
-    )
+    };
+    qrh::qrh_vanilla(&given, order, draws, observations)
 }
 
 // A mirrored vanilla batch: path 2i has the draws of path 2i - 1, negated.
@@ -120,17 +127,18 @@ pub extern "C" fn qrh_mirrored(
         draws.now)
         observations.old observations.new result }
 {
-    qrh::qrh_mirrored(
+    let given = Given {
         weights,
         discounts,
         model,
         schedule,
-        put,
-        strike,
+    };
+    let order = Order {
+        terms: Terms::Vanilla { put, strike },
+        mirrored: true,
         paths,
-        draws,
-        observations,
-    )
+    };
+    qrh::qrh_vanilla(&given, order, draws, observations)
 }
 
 #[unsafe(no_mangle)]
@@ -183,16 +191,16 @@ pub extern "C" fn qrh_vix_batch(
         workspace.old workspace.new
         observations.old observations.new result }
 {
-    qrh::qrh_vix_batch(
+    let given = Given {
         weights,
         discounts,
         model,
         schedule,
+    };
+    let order = vix_batch::Order {
         window,
         payoff,
         paths,
-        draws,
-        workspace,
-        observations,
-    )
+    };
+    qrh::qrh_vix_batch(&given, order, draws, workspace, observations)
 }

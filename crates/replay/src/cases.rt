@@ -1,106 +1,149 @@
-// The cases of a file, one after another.
-use crate::words::{END, after, after_list, word};
-use crate::{exponentials, modelled, scalar};
-use std::num::wrapping_add_u64;
+// The cases of a file, one after another, and what comes of them.
+use crate::calls::Call;
+use crate::fault::Fault;
+use crate::words::Reader;
+use crate::{exponentials, scalar, traces, vanillas, vix_calls};
+use std::alloc::{AllocError, Global};
+use std::fmt;
 
-// The first word of a file: the bytes QRHCASE1.
-const MARK: u64 = 0x3145_5341_4348_5251;
+// The first word of a file.
+const MARK: [u8; 8] = *b"QRHCASE1";
 
-// The place of the first case. A case is laid out as a list is: the number of its words, and those.
-const FIRST: usize = 2;
-
-// What came of the cases of one call: how many there are, how many of them differed from the
-// record, and the first that did, counted from 1 over all cases of the file.
+// A case: its call, and the words of its inputs and its outcome.
 #[derive(Clone, Copy)]
-pub struct Tally {
-    pub cases: u64,
-    pub different: u64,
-    pub first: u64,
+pub(crate) struct Case<'a> {
+    call: Call,
+    words: Reader<'a>,
 }
 
-// The number of cases that the file is to have.
-pub(crate) fn count(file: &[u8]) -> u64 {
-    word(file, 1)
+// The cases of a whole file: its mark, their number, and that many cases.
+pub(crate) fn cases(alloc: Global, file: &[u8]) -> Result<Vec<Case<'_>>, Fault> {
+    let mut words = Reader::new(file)?;
+    if words.bytes()? != MARK {
+        return Err(Fault::Damaged);
+    }
+    let mut cases = Vec::new(alloc);
+    for _ in 0..words.word()? {
+        cases.push(Case::read(&mut words)?)?;
+    }
+    words.ends()?;
+    Ok(cases)
 }
 
-// The place after the case at a place, or the end where it is one of no call.
-fn after_case(file: &[u8], at: usize) -> usize {
-    match word(file, after(at, 1)) {
-        1..=10 => after_list(file, at),
-        _ => END,
+impl<'a> Case<'a> {
+    fn read(file: &mut Reader<'a>) -> Result<Case<'a>, Fault> {
+        let mut words = file.list()?;
+        let call = Call::try_from(words.word()?)?;
+        Ok(Case { call, words })
     }
-}
 
-// Whether the file is made of its mark, the count and that many cases.
-pub(crate) fn is_whole(file: &[u8]) -> bool {
-    let cases = count(file);
-    if word(file, 0) != MARK || cases > END as u64 {
-        return false;
+    // The case comes out as recorded, and has no words beyond its outcome.
+    fn replay(&self, alloc: Global) -> Result<(), Fault> {
+        let mut words = self.words;
+        let case = &mut words;
+        match self.call {
+            Call::Convert => scalar::convert(case),
+            Call::SquareRoot => scalar::square_root(case),
+            Call::Trace => traces::replay(case, alloc),
+            Call::VixEvaluation => vix_calls::evaluation(case, alloc),
+            Call::VixBatch => vix_calls::batch(case, alloc),
+            Call::Exponential => exponentials::replay(case, alloc),
+            Call::Vanilla | Call::Mirrored | Call::DownAndOut | Call::MirroredDownAndOut => {
+                vanillas::replay(case, alloc, self.call)
+            }
+        }?;
+        words.ends()
     }
-    let mut at = FIRST;
-    let mut case: u64 = 0;
-    while case < cases {
-        at = after_case(file, at);
-        case += 1;
-    }
-    (file.len() % 8 == 0) & (file.len() / 8 == at)
-}
 
-// Runs a case whose inputs are at a place, and says whether its outcome is as recorded and ends
-// where the case does.
-fn is_same(file: &[u8], call: u64, at: usize, end: usize) -> bool {
-    match call {
-        1 => scalar::convert(file, at, end),
-        2 => scalar::square_root(file, at, end),
-        8 => exponentials::replay(file, at, end),
-        _ => modelled::replay(file, call, at, end),
-    }
-}
-
-// The tally with one case more.
-fn with_case(tally: Tally, case: u64, same: bool) -> Tally {
-    let cases = wrapping_add_u64(tally.cases, 1);
-    if same {
-        return Tally {
-            cases: cases,
-            different: tally.different,
-            first: tally.first,
-        };
-    }
-    Tally {
-        cases: cases,
-        different: wrapping_add_u64(tally.different, 1),
-        first: if tally.different == 0 {
-            case
-        } else {
-            tally.first
-        },
+    fn differs(&self, alloc: Global) -> Result<bool, AllocError> {
+        match self.replay(alloc) {
+            Ok(()) => Ok(false),
+            Err(Fault::OutOfMemory(error)) => Err(error),
+            Err(_) => Ok(true),
+        }
     }
 }
 
-// The tally after the case at a place, which is counted if it is one of that call.
-fn counted(tally: Tally, file: &[u8], call: u64, at: usize, case: u64) -> Tally {
-    if word(file, after(at, 1)) != call {
-        return tally;
-    }
-    let same = is_same(file, call, after(at, 2), after_list(file, at));
-    with_case(tally, case, same)
+// What came of the cases of one call: how many there are, and which of them differ from the record,
+// counted from 1 over all cases of the file.
+#[derive(Drop)]
+pub(crate) struct Tally {
+    cases: usize,
+    different: Vec<usize>,
 }
 
-// Runs the cases of one call.
-pub(crate) fn tally_of(file: &[u8], call: u64) -> Tally {
-    let cases = count(file);
-    let mut tally = Tally {
-        cases: 0,
-        different: 0,
-        first: 0,
-    };
-    let mut at = FIRST;
-    let mut case: u64 = 0;
-    while case < cases {
-        case += 1;
-        tally = counted(tally, file, call, at, case);
-        at = after_list(file, at);
+impl Tally {
+    // Runs the cases of one call.
+    pub(crate) fn of(alloc: Global, cases: &[Case<'_>], call: Call) -> Result<Tally, AllocError> {
+        let mut different = Vec::new(alloc);
+        for (i, case) in cases.iter().enumerate() {
+            if case.call == call && case.differs(alloc)? {
+                different.push(i + 1)?;
+            }
+        }
+        let cases = cases.iter().filter(|case| case.call == call).count();
+        Ok(Tally { cases, different })
     }
-    tally
+}
+
+impl fmt::Display for Tally {
+    fn fmt<W: fmt::Write>(&self, f: &mut fmt::Formatter<W>) -> fmt::Result {
+        let cases = self.cases;
+        match self.different.first() {
+            None => write!(f, "{cases} cases, none differs"),
+            Some(first) => {
+                let count = self.different.len();
+                write!(
+                    f,
+                    "{cases} cases, {count} differ, the first is case {first}"
+                )
+            }
+        }
+    }
+}
+
+#[cfg(test)]
+mod tests {
+    use super::*;
+    use std::num::f64_to_bits_with_nan;
+    use std::test::Fail;
+
+    // A file of one case: the square root of 4.
+    fn file_with(alloc: Global, root: f64) -> Result<Vec<u8>, AllocError> {
+        let mark = u64::from_le_bytes(MARK);
+        let four = f64_to_bits_with_nan(4.0);
+        let root = f64_to_bits_with_nan(root);
+        let words = [mark, 1, 8, 2, four, 0, 0, 0, 0, 0, root];
+        let mut file = Vec::new(alloc);
+        for word in words {
+            file.extend_from_slice(&word.to_le_bytes())?;
+        }
+        Ok(file)
+    }
+
+    fn report(alloc: Global, file: &[u8]) -> Result<String, Fail> {
+        let cases = cases(alloc, file)?;
+        Ok(Tally::of(alloc, &cases, Call::SquareRoot)?.to_string(alloc)?)
+    }
+
+    #[test]
+    fn differences_are_counted(rt: HostRuntime) -> Result<(), Fail> {
+        let right = file_with(rt.alloc(), 2.0)?;
+        let text = report(rt.alloc(), &right)?;
+        assert_eq!(rt; text.as_str(), "1 cases, none differs");
+        let wrong = file_with(rt.alloc(), 3.0)?;
+        let text = report(rt.alloc(), &wrong)?;
+        assert_eq!(rt; text.as_str(), "1 cases, 1 differ, the first is case 1");
+        Ok(())
+    }
+
+    #[test]
+    fn a_part_of_a_file_is_damaged(rt: HostRuntime) -> Result<(), Fail> {
+        let file = file_with(rt.alloc(), 2.0)?;
+        for length in 0..file.len() {
+            let part = cases(rt.alloc(), &file[..length]);
+            assert!(rt; matches!(part, Err(Fault::Damaged)), "at {length}");
+        }
+        Ok(())
+    }
 }

@@ -1,34 +1,18 @@
 // Call 8: the exponential of a matrix.
-use crate::inputs::size;
-use crate::outcome::{after_head, same_counts, same_head};
-use crate::tables::{lend, list, same_table, same_workspace, workspace, zeros};
-use crate::words::{after, after_list};
-use exponentiation::Exponentiation;
+use crate::fault::Fault;
+use crate::outcomes::{counts, head};
+use crate::tables::Table;
+use crate::words::Reader;
+use std::alloc::Global;
 
-fn same_answer(file: &[u8], at: usize, answer: Exponentiation) -> bool {
-    let place = answer.place;
-    same_head(file, at, answer.number, place)
-        & same_counts(file, after_head(at), &[answer.squarings])
-}
-
-pub(crate) fn replay(file: &[u8], at: usize, end: usize) -> bool {
-    let input_at = after(at, 1);
-    let lengths_at = after_list(file, input_at);
-    let outcome_at = after(lengths_at, 2);
-    let mut input = zeros();
-    let count = list(file, input_at, &mut input);
-    let input = &input[..count];
-    let mut table = zeros();
-    let count = lend(file, lengths_at, 1, &mut table);
-    let output = &mut table[..count];
-    let mut room = workspace();
-    let count = lend(file, after(lengths_at, 1), 2, &mut room);
-    let work = &mut room[..count];
-    let answer = qrh::qrh_exponential(size(file, at), input, output, work);
-    let table_at = after(outcome_at, 6);
-    let room_at = after_list(file, table_at);
-    same_answer(file, outcome_at, answer)
-        & same_table(file, table_at, 1, &table)
-        & same_workspace(file, room_at, 2, &room)
-        & (after(room_at, 1) == end)
+pub(crate) fn replay(case: &mut Reader<'_>, alloc: Global) -> Result<(), Fault> {
+    let dimension = case.size()?;
+    let input = case.doubles(alloc)?;
+    let mut output = Table::lent(case, alloc, 1)?;
+    let mut workspace = Table::lent(case, alloc, 2)?;
+    let answer = qrh::qrh_exponential(dimension, &input, output.entries(), workspace.entries());
+    head(case, answer.number, answer.place)?;
+    counts(case, &[answer.squarings])?;
+    output.is_recorded(case)?;
+    workspace.is_left_as_recorded(case)
 }

@@ -1,100 +1,103 @@
 // The inputs of a call.
-ghost use Rattle.std.specs.Prelude.{◌≡◌, ◌+◌, ◌<◌, ◌≤◌, min};
-
-use crate::words::{after, word};
+use crate::fault::Fault;
+use crate::words::Reader;
+use admission::Given;
 use decimal::Decimal;
 use model::{Model, Schedule, Segment};
+use std::alloc::Global;
+use vix_value::Factors;
 
-// The words of the parameters of a model: six Decimals, a count, ten Decimals.
-const PARAMS: u64 = 33;
+const ZERO: Decimal = Decimal {
+    low: 0,
+    high: 0,
+    scale: 0,
+    negative: false,
+};
 
-pub(crate) fn decimal(file: &[u8], at: usize) -> Decimal {
-    let rest = word(file, after(at, 1));
-    Decimal {
-        low: word(file, at),
-        high: (rest % 0x1_0000_0000) as u32,
-        scale: (rest / 0x1_0000_0000 % 0x100) as u8,
-        negative: rest / 0x100_0000_0000 % 2 == 1,
+pub(crate) fn decimal(case: &mut Reader<'_>) -> Result<Decimal, Fault> {
+    let low = case.word()?;
+    let [high_0, high_1, high_2, high_3, scale, sign, _, _] = case.bytes()?;
+    Ok(Decimal {
+        low,
+        high: u32::from_le_bytes([high_0, high_1, high_2, high_3]),
+        scale,
+        negative: sign % 2 == 1,
+    })
+}
+
+pub(crate) fn factors(case: &mut Reader<'_>) -> Result<Factors, Fault> {
+    let count = case.size()?;
+    let mut factors = [ZERO; 10];
+    for factor in &mut factors {
+        *factor = decimal(case)?;
     }
+    Ok(Factors { count, factors })
 }
 
-pub(crate) fn size(file: &[u8], at: usize) -> usize {
-    word(file, at) as usize
+fn model(case: &mut Reader<'_>) -> Result<Model, Fault> {
+    let a = decimal(case)?;
+    let b = decimal(case)?;
+    let c = decimal(case)?;
+    let lambda = decimal(case)?;
+    let eta = decimal(case)?;
+    let spot = decimal(case)?;
+    let Factors { count, factors } = factors(case)?;
+    Ok(Model {
+        a,
+        b,
+        c,
+        lambda,
+        eta,
+        spot,
+        factor_count: count,
+        factors,
+    })
 }
 
-pub(crate) fn flag(file: &[u8], at: usize) -> bool {
-    word(file, at) == 1
+fn segment(case: &mut Reader<'_>) -> Result<Segment, Fault> {
+    let dt = decimal(case)?;
+    let steps = u32::try_from(case.word()?)?;
+    Ok(Segment { dt, steps })
 }
 
-pub(crate) fn factors(file: &[u8], at: usize) -> [Decimal; 10] {
-    let mut factors = [decimal(file, at); 10];
-    let mut i: usize = 1;
-    while i < 10 {
-        factors[i] = decimal(file, after(at, 2 * (i as u64)));
-        i += 1;
+// Segments that are not written are zeros.
+pub(crate) fn schedule(case: &mut Reader<'_>) -> Result<Schedule, Fault> {
+    let count = case.size()?;
+    let written = case.size()?;
+    let mut segments = [Segment { dt: ZERO, steps: 0 }; 64];
+    for segment_written in segments.get_mut(..written).ok_or(Fault::Damaged)? {
+        *segment_written = segment(case)?;
     }
-    factors
+    Ok(Schedule { count, segments })
 }
 
-pub(crate) fn read_model(file: &[u8], at: usize) -> Model {
-    let factors = factors(file, after(at, 13));
-    Model {
-        a: decimal(file, at),
-        b: decimal(file, after(at, 2)),
-        c: decimal(file, after(at, 4)),
-        lambda: decimal(file, after(at, 6)),
-        eta: decimal(file, after(at, 8)),
-        spot: decimal(file, after(at, 10)),
-        factor_count: size(file, after(at, 12)),
-        factors: factors,
-    }
+// With what every call begins that simulates or evaluates.
+#[derive(Drop)]
+pub(crate) struct Modelled {
+    pub weights: Vec<f64>,
+    pub discounts: Vec<f64>,
+    pub model: Model,
 }
 
-pub(crate) fn after_model(at: usize) -> usize
-    ensures { result ≡ min (at + 33) 131073 }
-{
-    after(at, PARAMS)
-}
+impl Modelled {
+    pub(crate) fn read(case: &mut Reader<'_>, alloc: Global) -> Result<Modelled, Fault> {
+        let weights = case.doubles(alloc)?;
+        let discounts = case.doubles(alloc)?;
+        let model = model(case)?;
+        Ok(Modelled {
+            weights,
+            discounts,
+            model,
+        })
+    }
 
-// Segment i, from 0; zeros where it is not written.
-fn segment(file: &[u8], at: usize, i: usize) -> Segment
-    requires { i < 64 }
-{
-    if i as u64 >= word(file, after(at, 1)) {
-        return Segment {
-            dt: Decimal {
-                low: 0,
-                high: 0,
-                scale: 0,
-                negative: false,
-            },
-            steps: 0,
-        };
+    // What a simulating call is given.
+    pub(crate) fn over(&self, schedule: Schedule) -> Given<'_> {
+        Given {
+            weights: &self.weights,
+            discounts: &self.discounts,
+            model: self.model,
+            schedule,
+        }
     }
-    let segment_at = after(after(at, 2), 3 * (i as u64));
-    Segment {
-        dt: decimal(file, segment_at),
-        steps: (word(file, after(segment_at, 2)) % 0x1_0000_0000) as u32,
-    }
-}
-
-pub(crate) fn read_schedule(file: &[u8], at: usize) -> Schedule {
-    let mut segments = [segment(file, at, 0); 64];
-    let mut i: usize = 1;
-    while i < 64 {
-        segments[i] = segment(file, at, i);
-        i += 1;
-    }
-    Schedule {
-        count: size(file, at),
-        segments: segments,
-    }
-}
-
-pub(crate) fn after_schedule(file: &[u8], at: usize) -> usize
-    ensures { result ≤ 131073 }
-{
-    let written_at = after(at, 2);
-    let written = word(file, after(at, 1));
-    after(after(after(written_at, written), written), written)
 }

@@ -4,16 +4,18 @@
 // them.
 #![tactic(auto)]
 
-ghost use Rattle.std.specs.Prelude.{◌≡◌, ◌≤◌, length, IfOk};
-
+use calls::Call;
+use cases::{Case, Tally};
+use fault::Fault;
 use std::io;
 use std::io::Read;
 
+mod calls;
 mod cases;
 mod exponentials;
+mod fault;
 mod inputs;
-mod modelled;
-mod outcome;
+mod outcomes;
 mod scalar;
 mod tables;
 mod traces;
@@ -21,77 +23,36 @@ mod vanillas;
 mod vix_calls;
 mod words;
 
-fn say(rt: &impl Print, text: &str, number: u64) -> io::Result<()> {
-    print!(rt; "{text}{number}")
-}
+// The calls in the order in which they are reported.
+const REPORTED: [Call; 10] = [
+    Call::Convert,
+    Call::SquareRoot,
+    Call::Trace,
+    Call::Vanilla,
+    Call::Mirrored,
+    Call::DownAndOut,
+    Call::MirroredDownAndOut,
+    Call::VixEvaluation,
+    Call::VixBatch,
+    Call::Exponential,
+];
 
-// Runs the cases of one call, and says what came of them.
-fn report(rt: &impl Print, file: &[u8], call: u64, name: &str) -> io::Result<()> {
-    let tally = cases::tally_of(file, call);
-    print!(rt; "{name}")?;
-    say(rt, ": ", tally.cases)?;
-    if tally.different == 0 {
-        return println!(rt; " cases, none differs");
+fn report(rt: &(impl Print + AllocGlobal), cases: &[Case<'_>]) -> io::Result<()> {
+    let count = cases.len();
+    println!(rt; "recorded cases: {count}")?;
+    for call in REPORTED {
+        let tally = Tally::of(rt.alloc(), cases, call)?;
+        println!(rt; "{call}: {tally}")?;
     }
-    say(rt, " cases, ", tally.different)?;
-    say(rt, " differ, the first is case ", tally.first)?;
-    println!(rt; "")
-}
-
-fn report_values_and_paths(rt: &impl Print, file: &[u8]) -> io::Result<()> {
-    report(rt, file, 1, "convert")?;
-    report(rt, file, 2, "square root")?;
-    report(rt, file, 3, "trace")
-}
-
-fn report_vanillas(rt: &impl Print, file: &[u8]) -> io::Result<()> {
-    report(rt, file, 4, "vanilla batch")?;
-    report(rt, file, 5, "mirrored batch")?;
-    report(rt, file, 9, "down-and-out batch")?;
-    report(rt, file, 10, "mirrored down-and-out batch")
-}
-
-fn report_vix_and_matrices(rt: &impl Print, file: &[u8]) -> io::Result<()> {
-    report(rt, file, 6, "VIX evaluation")?;
-    report(rt, file, 7, "VIX batch")?;
-    report(rt, file, 8, "exponential")
-}
-
-fn report_all(rt: &impl Print, file: &[u8]) -> io::Result<()> {
-    if !cases::is_whole(file) {
-        return println!(rt; "this is no whole file of recorded cases");
-    }
-    say(rt, "recorded cases: ", cases::count(file))?;
-    println!(rt; "")?;
-    report_values_and_paths(rt, file)?;
-    report_vanillas(rt, file)?;
-    report_vix_and_matrices(rt, file)
-}
-
-// Room for a file. Only its length is told: main's proof need not go through its bytes.
-fn room() -> [u8; 1048576]
-    ensures { 1048576 ≡ length result }
-{
-    [0; 1048576]
-}
-
-// Reads until the room is full or the input ends, and answers how many bytes it put at its start.
-fn read_full(input: &mut impl Read, room: &mut [u8]) -> io::Result<usize>
-    ensures { IfOk result (λ n. n ≤ length room.new) }
-{
-    let mut done = 0;
-    while done < room.len() {
-        let n = input.read(&mut room[done..])?;
-        if n == 0 {
-            break;
-        }
-        done += n;
-    }
-    Ok(done)
+    Ok(())
 }
 
 fn main(rt: HostRuntime) -> io::Result<()> {
-    let mut file = room();
-    let n = read_full(&mut rt.stdin(), &mut file)?;
-    report_all(&rt, &file[..n])
+    let mut file = Vec::new(rt.alloc());
+    rt.stdin().read_to_end(&mut file)?;
+    match cases::cases(rt.alloc(), &file) {
+        Ok(cases) => report(&rt, &cases),
+        Err(Fault::OutOfMemory(error)) => Err(io::Error::from(error)),
+        Err(_) => println!(rt; "this is no whole file of recorded cases"),
+    }
 }

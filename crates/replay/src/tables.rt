@@ -1,93 +1,63 @@
-// Lists of doubles, and the tables that a call is lent.
-ghost use Rattle.std.specs.Prelude.{◌≡◌, ◌≤◌, length};
-ghost use Rattle.replay.specs.Part.{Part};
+// The tables that a call is lent.
+use crate::fault::Fault;
+use crate::words::{Reader, same};
+use std::alloc::Global;
+use std::num::f64_from_bits_with_nan;
 
-use crate::words::{after, double, same, word};
-use std::num::wrapping_add_u64;
+// The longest table, a workspace.
+const MOST: u64 = 22_446;
 
-// A table of zeros. Only its length is told: a caller's proof need not go through its entries.
-pub(crate) fn zeros() -> [f64; 1024]
-    ensures { 1024 ≡ length result }
-{
-    [0.0; 1024]
+// A table, counted from 1 in the order of the call's parameters, and what it holds.
+#[derive(Drop)]
+pub(crate) struct Table {
+    number: u64,
+    entries: Vec<f64>,
 }
 
-// A workspace of zeros.
-pub(crate) fn workspace() -> [f64; 22446]
-    ensures { 22446 ≡ length result }
-{
-    [0.0; 22446]
+// What entry i of a table, from 0, holds before the call.
+fn lent(number: u64, i: u64) -> f64 {
+    let bits = 0x4000_0000_0000_0000_u64
+        .wrapping_add(number << 44)
+        .wrapping_add(i);
+    f64_from_bits_with_nan(bits)
 }
 
-// A count, or 0 where it exceeds `most`, as only a damaged file has it.
-fn count(file: &[u8], at: usize, most: usize) -> usize
-    ensures { result ≤ most }
-{
-    let count = word(file, at) as usize;
-    if count <= most { count } else { 0 }
-}
-
-// Puts the doubles of a list at the beginning of `out`, and answers how many there are.
-pub(crate) fn list(file: &[u8], at: usize, out: &mut [f64]) -> usize
-    ensures { Part result out.new }
-{
-    let n = count(file, at, out.len());
-    let mut i: usize = 0;
-    while i < n {
-        out[i] = double(word(file, after(at, i as u64 + 1)));
-        i += 1;
-    }
-    n
-}
-
-// What entry i of a table holds before the call.
-fn lent(table: u64, i: usize) -> u64 {
-    wrapping_add_u64(
-        0x4000_0000_0000_0000,
-        wrapping_add_u64(table << 44, i as u64),
-    )
-}
-
-// Fills a table as it is before the call, and answers how much of it is lent.
-pub(crate) fn lend(file: &[u8], at: usize, table: u64, out: &mut [f64]) -> usize
-    ensures { Part result out.new }
-{
-    let n = count(file, at, out.len());
-    let mut i: usize = 0;
-    while i < out.len() {
-        out[i] = double(lent(table, i));
-        i += 1;
-    }
-    n
-}
-
-// Whether the first doubles are as written at a place of the file, the rest being as before the
-// call.
-fn same_doubles(file: &[u8], at: usize, written: usize, table: u64, doubles: &[f64]) -> bool {
-    let mut i: usize = 0;
-    while i < doubles.len() {
-        let bits = if i < written {
-            word(file, after(at, i as u64))
-        } else {
-            lent(table, i)
-        };
-        if !same(doubles[i], bits) {
-            return false;
+impl Table {
+    // A table as it is before the call, as long as the next word says.
+    pub(crate) fn lent(case: &mut Reader<'_>, alloc: Global, number: u64) -> Result<Table, Fault> {
+        let length = case.word()?;
+        if length > MOST {
+            return Err(Fault::Damaged);
         }
-        i += 1;
+        let entries = (0..length).map(|i| lent(number, i)).collect(alloc)?;
+        Ok(Table { number, entries })
     }
-    true
-}
 
-// Whether a table begins as the list at a place of the file has it.
-pub(crate) fn same_table(file: &[u8], at: usize, table: u64, doubles: &[f64; 1024]) -> bool {
-    same_doubles(file, after(at, 1), count(file, at, 1024), table, doubles)
-}
-
-// Whether the workspace is as before the call, where the file asks for that.
-pub(crate) fn same_workspace(file: &[u8], at: usize, table: u64, doubles: &[f64; 22446]) -> bool {
-    if word(file, at) == 0 {
-        return true;
+    pub(crate) fn entries(&mut self) -> &mut [f64] {
+        self.entries.as_mut_slice()
     }
-    same_doubles(file, at, 0, table, doubles)
+
+    // The table begins with these words, and is as lent beyond them.
+    fn begins_with(&self, mut written: Reader<'_>) -> Result<(), Fault> {
+        for (i, entry) in self.entries.iter().enumerate() {
+            let expected = written.double().unwrap_or(lent(self.number, i as u64));
+            if !same(*entry, expected) {
+                return Err(Fault::Different);
+            }
+        }
+        written.ends()
+    }
+
+    // The table begins with the list that comes next.
+    pub(crate) fn is_recorded(&self, case: &mut Reader<'_>) -> Result<(), Fault> {
+        self.begins_with(case.list()?)
+    }
+
+    // The table is a workspace, which is as lent where the next word asks for that.
+    pub(crate) fn is_left_as_recorded(&self, case: &mut Reader<'_>) -> Result<(), Fault> {
+        match case.word()? {
+            0 => Ok(()),
+            _ => self.begins_with(Reader::empty()),
+        }
+    }
 }

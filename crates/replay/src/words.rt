@@ -1,83 +1,87 @@
 // A file of recorded cases (oracle/README.md) is a list of 64-bit words, each of 8 bytes, the
-// lowest first. Places in it are counted in words, from 0. Reading is total: past the end there are
-// zeros.
-ghost use Rattle.std.specs.Prelude.{◌≡◌, ◌+◌, ◌*◌, ◌^◌, ◌<◌, ◌≤◌, min, true, from_bits};
-ghost use Rattle.std.specs.Float.{binary64};
+// lowest first.
+ghost use Rattle.std.specs.Prelude.{◌≡◌, ◌↔◌, [], ◌∷◌, IsTrue, IsOk, IfOk};
 
-// The farthest place that is told from others. It lies past the longest file.
-pub const END: usize = 131_073;
+use crate::fault::Fault;
+use std::alloc::Global;
+use std::num::{f64_from_bits_with_nan, f64_to_bits_with_nan};
 
-fn wide(byte: u8) -> u64
-    ensures { result ≤ 255 }
-{
-    byte as u64
+// The words that are still to be read, of a file or of a case in it.
+#[derive(Clone, Copy)]
+pub(crate) struct Reader<'a> {
+    rest: &'a [[u8; 8]],
 }
 
-fn byte(file: &[u8], at: usize) -> u64
-    ensures { result ≤ 255 }
-{
-    if at < file.len() {
-        return wide(file[at]);
-    }
-    0
-}
-
-// The number of four bytes.
-fn half(file: &[u8], from: usize) -> u64
-    requires { from ≤ 8 * 131073 + 4 }
-    ensures { result < 2 ^ 32 }
-{
-    byte(file, from)
-        + 0x100 * byte(file, from + 1)
-        + 0x1_0000 * byte(file, from + 2)
-        + 0x100_0000 * byte(file, from + 3)
-}
-
-pub(crate) fn word(file: &[u8], at: usize) -> u64 {
-    if at > END {
-        return 0;
-    }
-    half(file, 8 * at) + 0x1_0000_0000 * half(file, 8 * at + 4)
-}
-
-// The place so many words further on.
-pub(crate) fn after(at: usize, count: u64) -> usize
-    ensures { result ≡ min (at + count) 131073 }
-{
-    if at < END {
-        if count < END as u64 {
-            let sum = at + count as usize;
-            if sum < END {
-                return sum;
-            }
+impl<'a> Reader<'a> {
+    // Reads a file, which is made of whole words.
+    pub(crate) fn new(file: &'a [u8]) -> Result<Reader<'a>, Fault> {
+        let (rest, more) = file.as_chunks::<8>();
+        if more.is_empty() {
+            Ok(Reader { rest })
+        } else {
+            Err(Fault::Damaged)
         }
     }
-    END
-}
 
-// The place after a list.
-pub(crate) fn after_list(file: &[u8], at: usize) -> usize
-    ensures { result ≤ 131073 }
-{
-    after(after(at, 1), word(file, at))
-}
-
-// The double of a bit pattern.
-pub(crate) fn double(bits: u64) -> f64
-    ensures { result ≡ from_bits binary64 bits }
-{
-    if bits % 0x8000_0000_0000_0000 <= 0x7ff0_0000_0000_0000 {
-        return f64::from_bits(bits);
+    pub(crate) fn empty() -> Reader<'a> {
+        Reader { rest: &[] }
     }
-    0.0 / 0.0
+
+    // The bytes of the next word.
+    pub(crate) fn bytes(&mut self) -> Result<[u8; 8], Fault>
+        ensures { IfOk result (λ next. self.old.rest.now ≡ next ∷ self.new.rest.now) }
+    {
+        let (next, rest) = self.rest.split_first().ok_or(Fault::Damaged)?;
+        self.rest = rest;
+        Ok(*next)
+    }
+
+    pub(crate) fn word(&mut self) -> Result<u64, Fault> {
+        Ok(u64::from_le_bytes(self.bytes()?))
+    }
+
+    pub(crate) fn double(&mut self) -> Result<f64, Fault> {
+        Ok(f64_from_bits_with_nan(self.word()?))
+    }
+
+    pub(crate) fn size(&mut self) -> Result<usize, Fault> {
+        Ok(usize::try_from(self.word()?)?)
+    }
+
+    pub(crate) fn flag(&mut self) -> Result<bool, Fault> {
+        Ok(self.word()? == 1)
+    }
+
+    // The words of a list, which begins with their number.
+    pub(crate) fn list(&mut self) -> Result<Reader<'a>, Fault> {
+        let count = self.size()?;
+        let (list, rest) = self.rest.split_at_checked(count).ok_or(Fault::Damaged)?;
+        self.rest = rest;
+        Ok(Reader { rest: list })
+    }
+
+    // A list of doubles.
+    pub(crate) fn doubles(&mut self, alloc: Global) -> Result<Vec<f64>, Fault> {
+        let list = self.list()?.rest.iter();
+        let doubles = list.map(|bytes| f64_from_bits_with_nan(u64::from_le_bytes(*bytes)));
+        Ok(doubles.collect(alloc)?)
+    }
+
+    // Nothing is left.
+    pub(crate) fn ends(&self) -> Result<(), Fault>
+        ensures { IsOk result ↔ (self.now.rest.now ≡ []) }
+    {
+        if self.rest.is_empty() {
+            Ok(())
+        } else {
+            Err(Fault::Damaged)
+        }
+    }
 }
 
-// Whether a double has these bits; any NaN is as any other.
-pub(crate) fn same(x: f64, bits: u64) -> bool
-    ensures { result ≡ true → x ≡ from_bits binary64 bits }
+// Whether two doubles have the same bits; any NaN is as any other.
+pub(crate) fn same(x: f64, y: f64) -> bool
+    ensures { IsTrue result ↔ (x ≡ y) }
 {
-    if x != x {
-        return bits % 0x8000_0000_0000_0000 > 0x7ff0_0000_0000_0000;
-    }
-    f64::to_bits(x) == bits
+    f64_to_bits_with_nan(x) == f64_to_bits_with_nan(y)
 }

@@ -8,19 +8,19 @@ use Prim.Native.Nat.{ℕ, zero, suc, ◌+◌, ◌≤◌, ◌<◌}
 use native.Mathlib.Nat.{eq-or-lt_of_le, le_of_suc-le-suc}
 use native.Mathlib.Numerals.{add-one}
 use native.Mathlib.Omega.{arith}
-use borrow.Author.Tests.{le-leb, lt-leb, ltb-true, leb-true}
+use borrow.Author.Tests.{le-leb, ltb-true, leb-true}
+use lib.Dec.{leb}
 use lib.Ieee.{Float, nan, binary64}
 use lib.ListN.{length, get_or, set, length-set}
 use Rattle.numeric.specs.Root.{root}
 use Rattle.numeric.proofs.Tables.{fill_next, take_is_tabulate}
 use Rattle.decimal.specs.Decimal.{is_positive, value}
 use Rattle.refusal.specs.declared.Refusal.{Refusal}
-use Rattle.refusal.specs.declared.Refusal.TheVariants.{Plain}
-use Rattle.refusal.specs.declared.Outcome.TheVariants.{Passed, Refused}
-use Rattle.refusal.specs.Questions.{first_no, each}
-use Rattle.refusal.proofs.Laws.{each_none, each_more, each_stops, each_passed, passed_head, passed_tail, never_both}
+use Rattle.std.specs.Prelude.{Result, Ok, Err}
+use Rattle.refusal.specs.declared.Refusal.TheVariants.{NoSegment, TooManySegments}
+use Rattle.refusal.specs.Questions.{first_no, each, passed, unless, ask}
+use Rattle.refusal.proofs.Laws.{each_none, each_more, each_stops, each_passed, passed_head, passed_tail, stopped, went_on}
 use Rattle.model.specs.declared.TimeGrid.{TimeGrid}
-use Rattle.schedule.specs.declared.ScheduleAdmission.{ScheduleAdmission}
 use Rattle.model.specs.declared.Schedule.{Schedule}
 use Rattle.model.specs.TimeGrid.{segment_at, steps_through, grid_of, last_step}
 use Rattle.model.specs.Inner.InUse.{grid_in_use}
@@ -30,16 +30,18 @@ use Rattle.schedule.specs.Inner.Admission.{SchedulePrepared}
 
 module _ (g : Schedule) where
   -- a refusal prepares nothing
-  pub schedule_refused : (r : ScheduleAdmission) (x : Refusal) → r.outcome ≡ Refused x → first_no (schedule_questions g) ≡ Refused x → SchedulePrepared g r
-  schedule_refused r x e f = record { outcome = e ∙ sym f; ready = λ p. absurd (never_both r.outcome x e p) }
+  pub schedule_refused : (x : Refusal) → first_no (schedule_questions g) ≡ Err x → SchedulePrepared g (Err x)
+  schedule_refused x f = record { outcome = sym f; ready = tt }
 
-  pub none_refused : g.count ≡ 0 → first_no (schedule_questions g) ≡ Refused (Plain 11)
-  unfolding schedule_questions first_no
-  none_refused h = rw (lt-leb 1 g.count (omega arith))
+  -- 11 and 12, by their answers
+  module _ (r : Refusal) where
+    pub none_refused : Err r ≡ unless (leb 1 g.count) NoSegment passed → first_no (schedule_questions g) ≡ Err r
+    unfolding schedule_questions
+    none_refused e = stopped _ _ r e
 
-  pub many_refused : 64 < g.count → first_no (schedule_questions g) ≡ Refused (Plain 12)
-  unfolding schedule_questions first_no
-  many_refused h = rw (le-leb 1 g.count (omega arith), lt-leb g.count 64 h)
+    pub many_refused : Ok tt ≡ unless (leb 1 g.count) NoSegment passed → Err r ≡ unless (leb g.count 64) TooManySegments passed → first_no (schedule_questions g) ≡ Err r
+    unfolding schedule_questions
+    many_refused some e = went_on _ _ some ∙ stopped _ _ r e
 
   -- with 11 and 12 passed, the segments are left
   left : 1 ≤ g.count → g.count ≤ 64 → first_no (schedule_questions g) ≡ first_no (each (segment_questions g) g.count)
@@ -57,7 +59,7 @@ module _ (g : Schedule) where
     pub last_is : (j : ℕ) → j < i → get_or last j 0 ≡ steps_through g (suc j)
     pub total_is : total ≡ steps_through g i
     pub short : total ≤ 4096
-    pub passed : first_no (each (segment_questions g) i) ≡ Passed
+    pub passed : first_no (each (segment_questions g) i) ≡ passed
 
   pub laying_none : (dt roots : List Float) (last : List ℕ) → 1 ≤ g.count → g.count ≤ 64 → length dt ≡ 64 → length roots ≡ 64 → length last ≡ 64 → Laying dt roots last 0 0
   unfolding steps_through
@@ -86,12 +88,12 @@ module _ (g : Schedule) where
     here : first_no (questions_of (segment_at g (suc i)) (i + 1) (total + (segment_at g (suc i)).steps)) ≡ first_no (segment_questions g (suc i))
     here = rw (add-one i, through)
 
-    pub segment_refused : (x : Refusal) → first_no (questions_of (segment_at g (suc i)) (i + 1) (total + (segment_at g (suc i)).steps)) ≡ Refused x → first_no (schedule_questions g) ≡ Refused x
+    pub segment_refused : (x : Refusal) → first_no (questions_of (segment_at g (suc i)) (i + 1) (total + (segment_at g (suc i)).steps)) ≡ Err x → first_no (schedule_questions g) ≡ Err x
     segment_refused x e =
         left before.some before.few
         ∙ each_stops (segment_questions g) i g.count x more before.passed (sym here ∙ e)
 
-    pub laying_more : (v w : Float) → v ≡ value (segment_at g (suc i)).dt → w ≡ root binary64 v → first_no (questions_of (segment_at g (suc i)) (i + 1) (total + (segment_at g (suc i)).steps)) ≡ Passed → Laying (set dt i v) (set roots i w) (set last i (total + (segment_at g (suc i)).steps)) (total + (segment_at g (suc i)).steps) (i + 1)
+    pub laying_more : (v w : Float) → v ≡ value (segment_at g (suc i)).dt → w ≡ root binary64 v → first_no (questions_of (segment_at g (suc i)) (i + 1) (total + (segment_at g (suc i)).steps)) ≡ passed → Laying (set dt i v) (set roots i w) (set last i (total + (segment_at g (suc i)).steps)) (total + (segment_at g (suc i)).steps) (i + 1)
     laying_more v w v-is w-is e =
         record {
           some = before.some;
@@ -108,7 +110,7 @@ module _ (g : Schedule) where
         }
 
   -- each segment has a step or more, so the totals rise
-  module _ (all : first_no (each (segment_questions g) g.count) ≡ Passed) where
+  module _ (all : first_no (each (segment_questions g) g.count) ≡ passed) where
     steps_rise : (j : ℕ) → j < g.count → steps_through g j < steps_through g (suc j)
     unfolding steps_through
     steps_rise j h =
@@ -126,7 +128,7 @@ module _ (g : Schedule) where
     abbrev grid : TimeGrid
     grid = record { count = g.count; total = total; dt = dt; sqrt_dt = roots; last = last }
 
-    all_passed : first_no (each (segment_questions g) g.count) ≡ Passed
+    all_passed : first_no (each (segment_questions g) g.count) ≡ passed
     all_passed = ap (λ (n : ℕ). first_no (each (segment_questions g) n)) (sym end) ∙ before.passed
 
     total_whole : total ≡ steps_through g g.count
@@ -157,9 +159,9 @@ module _ (g : Schedule) where
           take_is_tabulate 0 g.count _ last (omega arith) (λ j h. before.last_is j (omega arith)),
         )
 
-    pub schedule_prepared : SchedulePrepared g (record { outcome = Passed; grid = grid })
+    pub schedule_prepared : SchedulePrepared g (Ok grid)
     schedule_prepared =
         record {
           outcome = sym (left before.some before.few ∙ all_passed);
-          ready = λ e. record { in_use = in_use; laid = laid };
+          ready = record { in_use = in_use; laid = laid };
         }

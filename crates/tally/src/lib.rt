@@ -5,10 +5,11 @@
 ghost use Rattle.std.specs.Prelude.{◌≡◌, ◌*◌, ◌≤◌, length};
 ghost use Rattle.tally.specs.Inner.Rows.{last_observation, with_rows, fallen_among};
 
-use estimates::{Payoff, Tally, payoffs, welford};
+use estimates::{Payoff, Tally, payoffs};
 use walks::Observed;
 
-// The last observation of row p, counted from 1, in a table of `count` columns.
+// The last observation of row p, counted from 1, in a table of `count` columns. Rows and count stay
+// two arguments: a struct that lends the rows makes each clause longer.
 pub fn last_observation(rows: &[f64], count: usize, p: usize) -> f64
     requires { (1 ≤ count) × (1 ≤ p) × (p * count ≤ length rows.now) }
     ensures { result ≡ last_observation rows.now count p }
@@ -17,6 +18,7 @@ pub fn last_observation(rows: &[f64], count: usize, p: usize) -> f64
 }
 
 // The tally with the paths whose lowest spots these are, in their order, from the first row on.
+#[tactic(auto, using(crate::proofs::Tallying::rows_none, crate::proofs::Tallying::rows_more))]
 pub fn with_rows(
     tally: Tally,
     payoff: Payoff,
@@ -30,12 +32,9 @@ pub fn with_rows(
         lowest.now (length lowest.now) }
 {
     let mut sum = tally;
-    let mut path: usize = 0;
-    while path < lowest.len() {
-        let own_lowest = lowest[path];
-        path += 1;
-        let underlying = payoffs::underlying_of(observed, last_observation(rows, count, path));
-        sum = welford::with_path(sum, payoff, underlying, own_lowest);
+    for (i, own_lowest) in lowest.iter().enumerate() {
+        let underlying = payoffs::underlying_of(observed, last_observation(rows, count, i + 1));
+        sum = sum.with_path(payoff, underlying, *own_lowest);
     }
     sum
 }
@@ -44,13 +43,5 @@ pub fn with_rows(
 pub fn fallen(lowest: &[f64]) -> u64
     ensures { result ≡ fallen_among lowest.now (length lowest.now) }
 {
-    let mut count: u64 = 0;
-    let mut i: usize = 0;
-    while i < lowest.len() {
-        if lowest[i] <= 0.0 {
-            count += 1;
-        }
-        i += 1;
-    }
-    count
+    lowest.iter().filter(|spot| **spot <= 0.0).count() as u64
 }

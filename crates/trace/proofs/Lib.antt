@@ -1,3 +1,4 @@
 mod Points
 mod Turns
-mod Answers
+mod Tables
+mod Admitting

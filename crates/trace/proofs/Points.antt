@@ -18,28 +18,6 @@ use Rattle.model.proofs.First.{split}
 use Rattle.trace.specs.Trace.{Tables, tables, table_after, tables_after}
 use Rattle.trace.specs.Inner.Points.{Sized, Written, PointWritten}
 
--- ---- values written from a place on
-module _ (base : ℕ) (values l₀ : List Float) where
-  pub written_none : Written base 0 values l₀ l₀
-  written_none =
-      record { front = λ x h. refl; new = λ i h. absurd (omega arith); back = λ x h. refl }
-
-  pub written_more :
-      (l : List Float) (n : ℕ) → Written base n values l₀ l → base + n < length l
-      → Written base (n + 1) values l₀ (set l (base + n) (get_or values n nan))
-  written_more l n h k =
-      record {
-        front = λ x b. get_or-set_other l (base + n) x _ nan (omega arith) ∙ h.front x b;
-        new = λ i b.
-            ⊎_elim
-            (λ (z : i < n). get_or-set_other l (base + n) (base + i) _ nan (omega arith) ∙ h.new i z)
-            (λ (z : n ≤ i).
-            let e : i ≡ n = omega arith in
-            rw e (get_or-set_same l (base + n) _ nan k))
-            (split i n);
-        back = λ x b. get_or-set_other l (base + n) x _ nan (omega arith) ∙ h.back x (omega arith);
-      }
-
 -- ---- a table with the points below m written
 module _ (w : Walk) (point : ℕ → ℕ) (entry : State → ℕ → Float) (lent : List Float) where
   pub record Through (l : List Float) (m : ℕ) : Type 0 where

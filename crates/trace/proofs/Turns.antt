@@ -16,8 +16,8 @@ use Rattle.model.specs.declared.Params.{Params}
 use Rattle.model.specs.declared.State.{State}
 use Rattle.model.specs.declared.Rates.{Rates}
 use Rattle.model.specs.declared.TimeGrid.{TimeGrid}
-use Rattle.model.specs.declared.Finiteness.TheVariants.{Finite, NonFinite}
-use Rattle.model.specs.Step.{step, finiteness}
+use Rattle.std.specs.Prelude.{Ok, Err}
+use Rattle.model.specs.Step.{step, finiteness, finite_state}
 use Rattle.model.specs.TimeGrid.{dt_at}
 use Rattle.model.specs.Walk.{Walk, state_after, stop_within}
 use Rattle.model.specs.Inner.InUse.{kernel_in_use, state_in_use, grid_in_use, simulation_in_use}
@@ -26,8 +26,6 @@ use Rattle.model.specs.Inner.Laid.{Laid}
 use Rattle.model.proofs.Containment.{Reached, reached_none, reached_open, reached_next, reached_on}
 use Rattle.model.proofs.Containment.{dt_reached, sqrt_dt_reached}
 use Rattle.model.proofs.Stops.{stop_at, stop_goes, stop_ends, stop_none}
-use Rattle.trace.specs.declared.Traced.TheVariants.{Done}
-use Rattle.trace.specs.declared.Traced.TheVariants as answers
 use Rattle.trace.specs.Trace.{Tables, trace_walk, answer_of, trace_answer, tables_after}
 use Rattle.trace.specs.Inner.Points.{Sized, PointWritten}
 use Rattle.trace.proofs.Points.{AllThrough, all_none, all_next, all_end}
@@ -111,11 +109,11 @@ module _ (m : Simulation) (draws : List Float) (lent : Tables) where
         going_before j b = stop_none w j at (omega arith) h.going
 
         -- the last point is written
-        pub done_answer : at ≡ total → Done at ≡ trace_answer w
+        pub done_answer : at ≡ total → Ok total ≡ trace_answer w
         unfolding trace_answer
         done_answer e =
             let none-stops = subst (λ (j : ℕ). stop_within w j ≡ none) e h.going in
-            rw (none-stops, answer_of) (ap Done e)
+            rw (none-stops, answer_of) refl
 
         pub done_tables :
             (t' : Tables) → at ≡ total → AllThrough w n lent t' (at + 1) → t' ≡ tables_after w lent
@@ -158,15 +156,15 @@ module _ (m : Simulation) (draws : List Float) (lent : Tables) where
             next_finiteness = ap finiteness next_state
 
             -- that is not finite
-            module _ (q : Quantity) (f : finiteness s' ≡ NonFinite q) where
-              fails : finiteness (state_after w (suc at)) ≡ NonFinite q
+            module _ (q : Quantity) (f : finiteness s' ≡ Err q) where
+              fails : finiteness (state_after w (suc at)) ≡ Err q
               fails = sym next_finiteness ∙ f
 
-              pub stop_answer : answers.NonFinite (at + 1) q ≡ trace_answer w
+              pub stop_answer : Err (record { step = at + 1; quantity = q }) ≡ trace_answer w
               unfolding trace_answer
               stop_answer =
                   rw (stop_ends w at q h.going fails total b, answer_of)
-                  (ap (λ (j : ℕ). answers.NonFinite j q) (add-one at))
+                  (ap (λ (j : ℕ). Err (record { step = j; quantity = q })) (add-one at))
 
               pub stop_tables :
                   (t' : Tables) → AllThrough w n lent t' (at + 1) → t' ≡ tables_after w lent
@@ -177,7 +175,7 @@ module _ (m : Simulation) (draws : List Float) (lent : Tables) where
 
             -- that is finite
             module _
-                (f : finiteness s' ≡ Finite)
+                (f : finiteness s' ≡ finite_state)
                 (t' : Tables)
                 (all : AllThrough w n lent t' (at + 1))
               where

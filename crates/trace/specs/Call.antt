@@ -1,15 +1,16 @@
 -- The trace call: its questions, its answer and its tables, for all inputs. Definitions only.
 use Rattle.std.specs.Prelude.{◌≡◌, Bool, ◌&&◌, List, [], ◌∷◌, ◌++◌, ℕ, ◌+◌, ◌*◌, eqb, length, Float}
+use Rattle.std.specs.Prelude.{Result, Ok, Err}
 use Rattle.refusal.specs.declared.Refusal.{Refusal}
-use Rattle.refusal.specs.Refusal.{quantity_number, number_of, no_place, place_of}
-use Rattle.refusal.specs.Questions.{Question, asked, first_no, once_asked, written_once_asked}
+use Rattle.refusal.specs.declared.Refusal.TheVariants as no
+use Rattle.refusal.specs.Refusal.{number_of, no_place, place_of}
+use Rattle.refusal.specs.Questions.{Question, ask, first_no, once_asked, written_once_asked}
 use Rattle.model.specs.TimeGrid.{grid_of}
 use Rattle.model.specs.Parameters.{start_of}
 use Rattle.model.specs.Simulation.{Given, simulation_of}
 use Rattle.model.specs.Walk.{Walk}
 use Rattle.admission.specs.Questions.{model_questions}
-use Rattle.trace.specs.declared.Traced.{Traced}
-use Rattle.trace.specs.declared.Traced.TheVariants.{Done, NonFinite}
+use Rattle.trace.specs.declared.Stopped.{Stopped}
 use Rattle.trace.specs.declared.Lengths.{Lengths}
 use Rattle.trace.specs.declared.Tracing.{Tracing}
 use Rattle.trace.specs.Trace.{Tables, trace_walk, trace_answer, tables_after}
@@ -45,35 +46,41 @@ lengths_right points n lent =
     && (eqb lent.variances points
     && (eqb lent.z points && eqb lent.factors (points * n)))
 
--- Rule 15.2: those of the model; 20, a draw a step; 21, the lent tables as long as N + 1 points are
+-- Rule 15.2: 20, a draw a step; 21, the lent tables as long as N + 1 points are
+abbrev pub table_questions : ℕ → ℕ → ℕ → Lengths → List Question
+table_questions steps n drawn lent =
+    ask no.Draws (eqb drawn steps)
+    ∷ ask no.Lengths (lengths_right (steps + 1) n lent)
+    ∷ []
+
+-- Rule 15.2: those of the model, then these
 unfoldable pub trace_questions : TraceInputs → Tables → List Question
 unfolding model_questions start_of grid_of
 trace_questions i lent =
     let s = simulation_of i.given in
-    let steps = s.grid.total in
     model_questions i.given
-    ++ (asked 20 (eqb (length i.draws) steps)
-    ∷ asked 21 (lengths_right (steps + 1) s.kernel.n (lengths lent))
-    ∷ [])
+    ++ table_questions s.grid.total s.kernel.n (length i.draws) (lengths lent)
 
 -- ---- its answer
 
+-- Rule 17.1: number and place of a refusal, with the steps taken by then
+abbrev pub refused_after : ℕ → Refusal → Tracing
+refused_after steps refusal =
+    record { number = number_of refusal; place = place_of refusal; steps = steps }
+
 -- Rules 8.2 and 17.2: number, place and steps taken of each case; a trace is path 1, and the step
 -- at which it stops is the last one taken
-abbrev pub answered : Traced → Tracing
-answered (Done steps) = record { number = 0; place = no_place; steps = steps }
-answered (NonFinite step quantity) =
-    record { number = 22; place = 1 ∷ step ∷ quantity_number quantity ∷ step ∷ []; steps = step }
+abbrev pub answered : Result ℕ Stopped → Tracing
+answered (Ok steps) = record { number = 0; place = no_place; steps = steps }
+answered (Err stop) = refused_after stop.step (no.NonFinite 1 stop.step stop.quantity stop.step)
 
--- Rule 17.3: at a refusal before 22 no step is taken
-abbrev pub refused : Refusal → Tracing
-refused refusal = record { number = number_of refusal; place = place_of refusal; steps = 0 }
-
--- Rule 15.2: the refusal of its first No; where there is none, what the walk comes to
+-- Rules 15.2 and 17.3: the refusal of its first No, before which no step is taken; where there is
+-- none, what the walk comes to
 unfoldable pub trace_call : TraceInputs → Tables → Tracing
 unfolding trace_questions trace_answer start_of grid_of
 trace_call i lent =
-    once_asked (first_no (trace_questions i lent)) refused (answered (trace_answer (walk_of i)))
+    once_asked (first_no (trace_questions i lent)) (refused_after 0)
+    (answered (trace_answer (walk_of i)))
 
 -- Rule 16.2: its tables after it
 unfoldable pub trace_tables : TraceInputs → Tables → Tables

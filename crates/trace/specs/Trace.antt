@@ -1,26 +1,26 @@
 -- A trace is one path over the whole schedule: its walk, what it comes to, and what it leaves in
 -- its tables. Definitions only.
 use Rattle.std.specs.Prelude.{List, ℕ, pred, ◌/◌, ◌%◌, length, get_or, Float}
+use Rattle.std.specs.Prelude.{Result, Ok, Err}
 use Rattle.std.proofs.Math.Option.{Option, none, some}
 use Rattle.std.specs.Float.{nan}
 use Rattle.numeric.specs.Table.{tabulate}
 use Rattle.model.specs.declared.Simulation.{Simulation}
 use Rattle.model.specs.declared.State.{State}
 use Rattle.model.specs.Walk.{Walk, Stop, state_after, stop_within, unless_stopped}
-use Rattle.trace.specs.declared.Traced.{Traced}
-use Rattle.trace.specs.declared.Traced.TheVariants.{Done, NonFinite}
+use Rattle.trace.specs.declared.Stopped.{Stopped}
 
 -- Rule 8.1: step k takes draw k
 abbrev pub trace_walk : Simulation → List Float → Walk
 trace_walk s draws = record { simulation = s; draw = λ k. get_or draws (pred k) nan }
 
 -- Rule 8.2: the steps taken, or the step at which the path stops and what is not finite there
-abbrev pub answer_of : ℕ → Option Stop → Traced
-answer_of total none = Done total
-answer_of total (some stop) = NonFinite stop.step stop.quantity
+abbrev pub answer_of : ℕ → Option Stop → Result ℕ Stopped
+answer_of total none = Ok total
+answer_of total (some stop) = Err (record { step = stop.step; quantity = stop.quantity })
 
 -- Rule 8.2: of the whole walk
-unfoldable pub trace_answer : Walk → Traced
+unfoldable pub trace_answer : Walk → Result ℕ Stopped
 unfolding stop_within
 trace_answer w = let total = w.simulation.grid.total in answer_of total (stop_within w total)
 
@@ -42,7 +42,8 @@ unfolding tabulate stop_within state_after
 table_after w point entry lent =
     tabulate (length lent)
     (λ x.
-    unless_stopped (stop_within w (point x)) (entry (state_after w (point x)) x) (get_or lent x nan))
+    unless_stopped (stop_within w (point x)) (entry (state_after w (point x)) x)
+    (get_or lent x nan))
 
 -- Rule 16.2: factor i of point k stands at k × n + i
 abbrev pub tables_after : Walk → Tables → Tables

@@ -5,8 +5,8 @@ ghost use Rattle.model.specs.Inner.Laid.{Laid};
 ghost use Rattle.trace.specs.Trace.{tables, trace_walk, trace_answer, tables_after};
 ghost use Rattle.trace.specs.Inner.Points.{Sized, Written, PointWritten};
 
-use crate::Traced;
-use model::{Finiteness, Simulation, State, draws, scheme};
+use crate::Stopped;
+use model::{Simulation, State, draws, scheme};
 
 // The first n of `values`, at the places of a point.
 fn write_factors(n: usize, values: [f64; 10], point: usize, factors: &mut [f64])
@@ -14,11 +14,8 @@ fn write_factors(n: usize, values: [f64; 10], point: usize, factors: &mut [f64])
     requires n_in_bounds { point * n + n ≤ length factors.old }
     ensures { Written (point * n) n values factors.old factors.new }
 {
-    let mut i: usize = 0;
-    while i < n {
-        factors[point * n + i] = values[i];
-        i += 1;
-    }
+    let at = point * n;
+    factors[at..at + n].copy_from_slice(&values[..n]);
 }
 
 // A state, as the point of that number.
@@ -44,11 +41,10 @@ fn write_point(
     spots[point] = s.spot;
     variances[point] = s.variance;
     z[point] = s.z;
-    let values = s.factors;
-    write_factors(n, values, point, factors);
+    write_factors(n, s.factors, point, factors);
 }
 
-// Each point is written, up to the first step that is not finite.
+// Each point is written, up to the first step that is not finite. Answers the steps taken.
 pub fn walk(
     simulation: Simulation,
     draws: &[f64],
@@ -56,8 +52,8 @@ pub fn walk(
     variances: &mut [f64],
     z: &mut [f64],
     factors: &mut [f64],
-) -> Traced
-    requires le_n { (1 ≤ simulation.kernel.n) × (simulation.kernel.n ≤ 10) }
+) -> Result<u64, Stopped>
+    requires le_n { 1 ≤ simulation.kernel.n }
     requires laid { Laid simulation.grid }
     requires draws_len { length draws.now ≡ simulation.grid.total }
     requires sized { Sized simulation.grid.total simulation.kernel.n
@@ -66,8 +62,7 @@ pub fn walk(
         ≡ trace_answer (trace_walk (simulation_in_use simulation) draws.now) }
     ensures tables { tables spots.new variances.new z.new factors.new
         ≡ tables_after (trace_walk (simulation_in_use simulation) draws.now)
-        (tables spots.old variances.old z.old
-        factors.old) }
+        (tables spots.old variances.old z.old factors.old) }
 {
     let kernel = simulation.kernel;
     let params = simulation.params;
@@ -77,27 +72,20 @@ pub fn walk(
     let mut s = simulation.start;
     let mut segment: usize = 0;
     let mut rates = scheme::rates_at(kernel, grid, segment);
-    let mut at: usize = 0;
-    loop {
+    for at in 0..total {
         write_point(n, s, at, spots, variances, z, factors);
-        if at == total {
-            return Traced::Done { steps: at as u64 };
-        }
         let g = draws::take_draw(draws, at);
         let next = scheme::step(kernel, params, s, g, rates);
-        let taken = at + 1;
-        if let Finiteness::NonFinite(quantity) = scheme::ensure_finite(next) {
-            return Traced::NonFinite {
-                step: taken as u64,
-                quantity: quantity,
-            };
+        if let Err(quantity) = scheme::ensure_finite(next) {
+            let step = at as u64 + 1;
+            return Err(Stopped { step, quantity });
         }
-        if taken == grid.last[segment] {
-            let following = segment + 1;
-            rates = scheme::rates_at(kernel, grid, following);
-            segment = following;
+        if at + 1 == grid.last[segment] {
+            segment += 1;
+            rates = scheme::rates_at(kernel, grid, segment);
         }
         s = next;
-        at = taken;
     }
+    write_point(n, s, total, spots, variances, z, factors);
+    Ok(total as u64)
 }

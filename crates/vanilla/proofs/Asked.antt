@@ -5,31 +5,24 @@ use mathlib.Core.List.{List, ◌++◌}
 use native.Mathlib.Omega.{arith}
 use lib.ListN.{length}
 use lib.Ieee.{Float}
-use Rattle.refusal.specs.declared.Outcome.{Outcome}
-use Rattle.refusal.specs.declared.Outcome.TheVariants.{Passed, Refused}
+use Rattle.std.specs.Prelude.{Ok, Err}
 use Rattle.refusal.specs.declared.Refusal.{Refusal}
-use Rattle.refusal.specs.Questions.{Question, first_no}
-use Rattle.refusal.specs.Inner.Asking.{or_later}
-use Rattle.refusal.proofs.Laws.{append, then, stops, passed_first}
+use Rattle.refusal.specs.Questions.{Question, Outcome, passed, first_no}
+use Rattle.refusal.proofs.Laws.{then, stops}
 use Rattle.model.specs.declared.Simulation.{Simulation}
-use Rattle.model.specs.Inner.InUse.{simulation_in_use}
-use Rattle.admission.specs.declared.ModelAdmission.{ModelAdmission}
 use Rattle.admission.specs.Questions.{model_questions}
-use Rattle.admission.specs.Inner.Admission.{SimulationReady, ModelPrepared}
-use Rattle.vix.specs.Inner.Form.{no_form}
+use Rattle.admission.specs.Inner.Admission.{ModelPrepared}
 use Rattle.walks.specs.declared.Batch.{Batch as Handed}
-use Rattle.walks.specs.declared.Observation.{Observation}
+use Rattle.walks.specs.declared.Observation.TheVariants as observation
 use Rattle.walks.specs.declared.Observed.TheVariants.{Spot}
 use Rattle.walks.specs.Batch.{batch_on}
-use Rattle.walks.specs.Inner.Handed.{observe_by, batch_of}
+use Rattle.walks.specs.Inner.Handed.{batch_of}
 use Rattle.estimates.specs.declared.Payoff.{Payoff}
-use Rattle.batch.specs.declared.Priced.{Priced}
-use Rattle.batch.specs.declared.Priced.TheVariants as priced
+use Rattle.batch.specs.Report.{Priced, refused_after}
 use Rattle.batch.specs.Questions.{path_questions, batch_questions}
 use Rattle.batch.specs.Claim.{answer_of}
 use Rattle.batch.specs.Inner.Handed.{Ready, PricedOnceAsked}
 use Rattle.batch.proofs.Asked.{refused_answered, read_answered}
-use Rattle.vanilla.specs.declared.Estimate.{Estimate}
 use Rattle.vanilla.specs.Call.{VanillaInputs, terms_questions, vanilla_questions}
 use Rattle.vanilla.specs.Call.{vanilla_batch, vanilla_payoff, read, VanillaAnswered}
 use Rattle.vanilla.specs.Inner.Answer.{written}
@@ -48,72 +41,60 @@ module _ (i : VanillaInputs) (lent : List Float) where
 
   -- what the claim speaks of is read off the answer
   reads : (x : Priced) → read (written x) ≡ answer_of (vanilla_batch i) x
-  reads (priced.Price report) = refl
-  reads (priced.Refused refusal steps) = refl
+  reads (Ok report) = refl
+  reads (Err r) = refl
 
-  module _
-      (door : ModelAdmission) (m : ModelPrepared i.given door) {asked : Outcome}
-      (first : asked ≡ or_later door.outcome (first_no (terms_questions i.order.terms)))
-    where
-      first_is : asked ≡ first_no earlier
-      first_is = first ∙ rw m.outcome (sym (append (model_questions i.given) _))
+  refused :
+      (r : Refusal) → first_no (vanilla_questions i (length lent)) ≡ Err r
+      → VanillaAnswered i lent lent (written (refused_after 0 r))
+  refused r e = refused_answered read (vanilla_batch i) (vanilla_payoff i) lent r e refl
 
-      pub refused :
-          (r : Refusal) → asked ≡ Refused r → {x : Estimate} → x ≡ written (priced.Refused r 0)
-          → VanillaAnswered i lent lent x
-      unfolding vanilla_questions
-      refused r e made =
-          refused_answered read (vanilla_batch i) (vanilla_payoff i) lent r
-          (stops earlier _ r (sym first_is ∙ e)) (ap read made)
+  pub model_refused :
+      (r : Refusal) → ModelPrepared i.given (Err r)
+      → VanillaAnswered i lent lent (written (refused_after 0 r))
+  unfolding vanilla_questions
+  model_refused r m =
+      refused r (stops earlier _ r (stops (model_questions i.given) _ r (sym m.outcome)))
 
-      module _ (e : asked ≡ Passed) where
-        ready : SimulationReady i.given door.simulation
-        ready =
-            m.ready
-            (m.outcome ∙ passed_first (model_questions i.given) _ (sym first_is ∙ e))
+  module _ (s : Simulation) (m : ModelPrepared i.given (Ok s)) where
+    pub terms_refused :
+        (r : Refusal) → first_no (terms_questions i.order.terms) ≡ Err r
+        → VanillaAnswered i lent lent (written (refused_after 0 r))
+    unfolding vanilla_questions
+    terms_refused r e =
+        refused r (stops earlier _ r (then (model_questions i.given) _ (sym m.outcome) ∙ e))
 
-        -- all questions come to what 19 to 21 come to
-        sizes_is : sizes door.simulation ≡ first_no (vanilla_questions i (length lent))
-        unfolding vanilla_questions path_questions
-        sizes_is = ap sizes ready.in_use ∙ sym (then earlier _ (sym first_is ∙ e))
+    abbrev handed : Handed
+    handed =
+        record {
+          simulation = s;
+          observation = observation.Spot;
+          mirrored = i.order.mirrored;
+          paths = i.order.paths;
+        }
 
-        module _
-            (o : Observation) (of-spot : o ≡ record { observed = Spot; form = no_form 0 })
-          where
-            abbrev handed : Handed
-            handed =
-                record {
-                  simulation = door.simulation;
-                  observation = o;
-                  mirrored = i.order.mirrored;
-                  paths = i.order.paths;
-                }
+    pub is_ready : Ready handed
+    is_ready =
+        record { admitted = m.ready.admitted; laid = m.ready.laid; form = omega arith }
 
-            pub is_ready : Ready handed
-            is_ready =
-                record {
-                  admitted = ready.admitted;
-                  laid = ready.laid;
-                  form =
-                      let none = ap (λ (x : Observation). x.form.n) of-spot in
-                      omega (arith, none);
-                }
+    batch_is : batch_of handed i.draws ≡ vanilla_batch i
+    batch_is =
+        ap
+        (λ (x : Simulation).
+        batch_on x Spot (λ s. s.spot) i.order.mirrored i.order.paths i.draws)
+        m.ready.in_use
 
-            batch_is : batch_of handed i.draws ≡ vanilla_batch i
-            batch_is =
-                ap
-                (λ (x : Observation).
-                batch_on (simulation_in_use door.simulation) x.observed (observe_by x)
-                i.order.mirrored i.order.paths i.draws)
-                of-spot
-                ∙ ap
-                (λ (s : Simulation).
-                batch_on s Spot (λ s. s.spot) i.order.mirrored i.order.paths i.draws)
-                ready.in_use
+    module _ (e : first_no (terms_questions i.order.terms) ≡ passed) where
+      -- all questions come to what 19 to 21 come to
+      sizes_is : sizes s ≡ first_no (vanilla_questions i (length lent))
+      unfolding vanilla_questions path_questions
+      sizes_is =
+          ap sizes m.ready.in_use
+          ∙ sym (then earlier _ (then (model_questions i.given) _ (sym m.outcome) ∙ e))
 
-            pub priced_through :
-                {payoff : Payoff} → payoff ≡ vanilla_payoff i → {after : List Float} {x : Priced}
-                → PricedOnceAsked handed payoff i.draws lent after x → {r : Estimate}
-                → r ≡ written x → VanillaAnswered i lent after r
-            priced_through pays {after} {x} made e =
-                read_answered read sizes_is batch_is pays made (ap read e ∙ reads x)
+      pub priced_through :
+          {payoff : Payoff} → payoff ≡ vanilla_payoff i → {after : List Float} {x : Priced}
+          → PricedOnceAsked handed payoff i.draws lent after x
+          → VanillaAnswered i lent after (written x)
+      priced_through pays {after} {x} made =
+          read_answered read sizes_is batch_is pays made (reads x)

@@ -3,20 +3,20 @@
 
 ghost use Rattle.std.specs.Prelude.{◌≡◌};
 ghost use Rattle.refusal.specs.Questions.{first_no};
-ghost use Rattle.model.specs.Simulation.{given};
+ghost use Rattle.admission.specs.Inner.Given.{given_of};
 ghost use Rattle.vanilla.specs.Call.{terms_questions, terms_payoff};
 ghost use Rattle.vanilla.specs.Call.{vanilla_inputs, VanillaAnswered};
 ghost use Rattle.vanilla.specs.Inner.Answer.{written};
 
+use admission::Given;
 use batch::{Priced, pricing, questions};
 use decimal::Decimal;
 use estimates::Payoff;
-use model::{Model, Schedule};
 use refusal::Outcome;
 use walks::{Batch, Observation};
 
 // What is paid on the spot: a call or a put at its strike, or a put that vanishes once the spot is
-// at its barrier or below.
+// at its barrier or below. `put` is a flag, as C hands it.
 #[derive(Clone, Copy)]
 pub enum Terms {
     Vanilla { put: bool, strike: Decimal },
@@ -32,7 +32,7 @@ pub struct Order {
 }
 
 // The values of a vanilla batch, in the order in which they are reported. At a refusal they are
-// zeros, but for the steps taken.
+// zeros, but for the steps taken. A C struct: C has no Result.
 #[repr(C)]
 #[derive(Clone, Copy)]
 pub struct Estimate {
@@ -51,15 +51,14 @@ fn answer(priced: Priced) -> Estimate
     ensures { result ≡ written priced }
 {
     match priced {
-        Priced::Price(report) => {
-            let estimates = report.estimates;
-            let payoff = estimates.payoff;
-            let spot = estimates.underlying;
+        Ok(report) => {
+            let price = report.estimates.payoff;
+            let spot = report.estimates.underlying;
             Estimate {
                 number: 0,
                 place: [0; 4],
-                price: payoff.mean,
-                price_error: payoff.error,
+                price: price.mean,
+                price_error: price.error,
                 spot_mean: spot.mean,
                 spot_error: spot.error,
                 paths: report.paths,
@@ -67,21 +66,17 @@ fn answer(priced: Priced) -> Estimate
                 steps: report.steps,
             }
         }
-        Priced::Refused { refusal, steps } => {
-            let number = refusal::number(refusal);
-            let place = refusal::place(refusal);
-            Estimate {
-                number: number,
-                place: place,
-                price: 0.0,
-                price_error: 0.0,
-                spot_mean: 0.0,
-                spot_error: 0.0,
-                paths: 0,
-                non_positive: 0,
-                steps: steps,
-            }
-        }
+        Err(refused) => Estimate {
+            number: refused.refusal.number(),
+            place: refused.refusal.place(),
+            price: 0.0,
+            price_error: 0.0,
+            spot_mean: 0.0,
+            spot_error: 0.0,
+            paths: 0,
+            non_positive: 0,
+            steps: refused.steps,
+        },
     }
 }
 
@@ -92,9 +87,8 @@ fn terms_questions(terms: Terms) -> Outcome
     match terms {
         Terms::Vanilla { strike, .. } => questions::strike_questions(strike),
         Terms::DownAndOut { strike, barrier } => {
-            let first = questions::strike_questions(strike);
-            let later = questions::barrier_questions(barrier);
-            refusal::or_later(first, later)
+            questions::strike_questions(strike)?;
+            questions::barrier_questions(barrier)
         }
     }
 }
@@ -108,39 +102,26 @@ fn terms_payoff(terms: Terms) -> Payoff
     }
 }
 
-// A row of observations a path, a column a segment.
-pub fn price(
-    weights: &[f64],
-    discounts: &[f64],
-    model: Model,
-    schedule: Schedule,
-    order: Order,
-    draws: &[f64],
-    observations: &mut [f64],
-) -> Estimate
-    ensures { VanillaAnswered
-        (vanilla_inputs (given weights.now discounts.now model schedule)
-        order draws.now)
-        observations.old observations.new result }
+// The questions in turn, and the price where they are passed.
+fn priced(given: &Given, order: Order, draws: &[f64], observations: &mut [f64]) -> Priced
+    ensures { VanillaAnswered (vanilla_inputs (given_of given.now) order draws.now)
+        observations.old observations.new (written result) }
 {
-    let terms = order.terms;
-    let admitted = admission::prepare(weights, discounts, model, schedule);
-    let first = admitted.outcome;
-    let asked = refusal::or_later(first, terms_questions(terms));
-    if let Outcome::Refused(refusal) = asked {
-        return answer(Priced::Refused {
-            refusal: refusal,
-            steps: 0,
-        });
-    }
-    let simulation = admitted.simulation;
-    let observation = Observation::of_spot();
+    let simulation = admission::prepare(given)?;
+    terms_questions(order.terms)?;
     let batch = Batch {
-        simulation: simulation,
-        observation: observation,
+        simulation,
+        observation: Observation::Spot,
         mirrored: order.mirrored,
         paths: order.paths,
     };
-    let payoff = terms_payoff(terms);
-    answer(pricing::price(batch, payoff, draws, observations))
+    pricing::price(batch, terms_payoff(order.terms), draws, observations)
+}
+
+// A row of observations a path, a column a segment.
+pub fn price(given: &Given, order: Order, draws: &[f64], observations: &mut [f64]) -> Estimate
+    ensures { VanillaAnswered (vanilla_inputs (given_of given.now) order draws.now)
+        observations.old observations.new result }
+{
+    answer(priced(given, order, draws, observations))
 }

@@ -1,3 +1,4 @@
+pub mod Coefficients
 pub mod Form
 pub mod Build
 pub mod Questions

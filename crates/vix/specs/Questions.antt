@@ -2,7 +2,8 @@
 use Rattle.std.specs.Prelude.{List, [], ◌∷◌, ◌++◌, ℕ, ◌*◌, eqb}
 use Rattle.decimal.specs.declared.Decimal.{Decimal}
 use Rattle.decimal.specs.Decimal.{is_positive, scale_fits, value}
-use Rattle.refusal.specs.Questions.{Question, asked}
+use Rattle.refusal.specs.declared.Refusal.TheVariants.{Scale, Window, Workspace, Exponential}
+use Rattle.refusal.specs.Questions.{Question, ask}
 use Rattle.model.specs.declared.Kernel.{Kernel}
 use Rattle.model.specs.declared.Params.{Params}
 use Rattle.generator_rows.specs.State.{pairs_before, dimension}
@@ -13,13 +14,14 @@ use Rattle.vix.specs.Build.{moments_finite}
 unfoldable pub window_questions : ℕ → Decimal → ℕ → List Question
 unfolding pairs_before
 window_questions n window workspace =
-    asked 15 (is_positive window)
-    ∷ asked 1 (scale_fits window)
-    ∷ asked 16 (eqb workspace (5 * (dimension n * dimension n)))
+    ask Window (is_positive window)
+    ∷ ask Scale (scale_fits window)
+    ∷ ask Workspace (eqb workspace (5 * (dimension n * dimension n)))
     ∷ []
 
 -- Rule 14.8: then 17, finite moments
 unfoldable pub form_questions : Kernel → Params → Decimal → ℕ → List Question
 unfolding window_questions moments_finite
 form_questions k p window workspace =
-    window_questions k.n window workspace ++ (asked 17 (moments_finite k p (value window)) ∷ [])
+    window_questions k.n window workspace
+    ++ (ask Exponential (moments_finite k p (value window)) ∷ [])

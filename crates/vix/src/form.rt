@@ -1,7 +1,5 @@
 // The form in the exponential: the integral's row, which begins at `at` of the workspace.
-ghost use Rattle.std.specs.Prelude.{◌≡◌, ◌+◌, ◌*◌, ◌≤◌, length, get_or, take};
-ghost use Rattle.std.specs.Float.{nan};
-ghost use Rattle.numeric.specs.Table.{tabulate};
+ghost use Rattle.std.specs.Prelude.{◌≡◌, ◌*◌, ◌≤◌, length};
 ghost use Rattle.matrix.specs.Inner.Workspace.{matrix_at};
 ghost use Rattle.generator_rows.specs.State.{dimension};
 ghost use Rattle.vix.specs.Build.{form_of};
@@ -9,19 +7,6 @@ ghost use Rattle.vix.specs.Inner.Form.{vix_in_use};
 
 use crate::Vix;
 use generator_rows::state;
-
-// Copies the `count` doubles at `at` of the workspace to the front of `into`.
-fn copy_front(count: usize, at: usize, work: &[f64], into: &mut [f64])
-    requires { (count ≤ length into.old) × (at + count ≤ length work.now) }
-    ensures { take count into.new
-        ≡ tabulate count (λ i. get_or work.now (at + i) nan) }
-{
-    let mut i: usize = 0;
-    while i < count {
-        into[i] = work[at + i];
-        i += 1;
-    }
-}
 
 // The form in n factors that the matrix at the front of the workspace holds.
 pub(crate) fn of_matrix(n: usize, dim: usize, window: f64, work: &[f64]) -> Vix
@@ -33,14 +18,15 @@ pub(crate) fn of_matrix(n: usize, dim: usize, window: f64, work: &[f64]) -> Vix
     let scale = 10000.0 / window;
     let constant = work[at + dim - 1];
     let mut linear = [0.0; 10];
-    copy_front(n, at, work, &mut linear);
+    linear[..n].copy_from_slice(&work[at..at + n]);
     let mut pairs = [0.0; 55];
-    copy_front(count, at + n, work, &mut pairs);
+    let first = at + n;
+    pairs[..count].copy_from_slice(&work[first..first + count]);
     Vix {
-        n: n,
-        scale: scale,
-        constant: constant,
-        linear: linear,
-        pairs: pairs,
+        n,
+        scale,
+        constant,
+        linear,
+        pairs,
     }
 }

@@ -7,19 +7,19 @@ ghost use Rattle.model.specs.Inner.InUse.{kernel_in_use};
 ghost use Rattle.generator_rows.specs.State.{pairs_before};
 ghost use Rattle.vix.specs.Form.{linear_value, row_value, raw_squared};
 ghost use Rattle.vix.specs.Questions.{window_questions};
-ghost use Rattle.vix.specs.Evaluation.{evaluation};
-ghost use Rattle.vix.specs.Inner.Form.{vix_in_use, no_form, FormPrepared};
+ghost use Rattle.vix.specs.Evaluation.{checked, evaluation};
+ghost use Rattle.vix.specs.Inner.Form.{vix_in_use, FormPrepared};
 
 mod form;
 
 use decimal::Decimal;
-use exponential::Exponentiated;
 use generator_rows::state;
 use model::{Kernel, Params};
-use refusal::{Outcome, Refusal};
+use refusal::{BadSquared, Outcome, Refusal};
 
 // 10000 / window, and the coefficients of the value: of each factor, of each pair i ≤ j row by row,
 // and the constant. n factors are in use, and n × (n + 1) / 2 pairs.
+// Arrays beside a count, since memory is fixed: there is no heap that a list could grow in.
 #[derive(Clone, Copy)]
 pub struct Vix {
     pub n: usize,
@@ -29,143 +29,127 @@ pub struct Vix {
     pub pairs: [f64; 55],
 }
 
-// What the questions of the form came to and, where all passed, the form.
-#[derive(Clone, Copy)]
-pub struct FormAdmission {
-    pub outcome: Outcome,
-    pub form: Vix,
+impl std::marker::Model for Vix {
+    ghost use Rattle.std.specs.Prelude.{◌≤◌};
+    ghost use Rattle.vix.specs.Coefficients.{Coefficients};
+
+    ghost Value = { Coefficients };
+
+    ghost view = { λ v. record {
+      n = v.n;
+      scale = v.scale;
+      constant = v.constant;
+      linear = v.linear;
+      pairs = v.pairs;
+    } };
+
+    ghost invariant = { λ v. v.n ≤ 10 };
+
+    ghost inverse = { λ v. record {
+      n = v.n;
+      scale = v.scale;
+      constant = v.constant;
+      linear = v.linear;
+      pairs = v.pairs;
+    } };
 }
 
-// What an evaluation gives: the VIX squared and the index, or that VIX squared is not finite, or
-// not above zero.
+// VIX squared at a factor state, and the index.
 #[derive(Clone, Copy)]
-pub enum Evaluated {
-    Done { squared: f64, index: f64 },
-    NotFinite,
-    NotPositive,
+pub struct Evaluation {
+    pub squared: f64,
+    pub index: f64,
 }
 
 // The constant and the linear terms.
+#[tactic(auto, unfolding(crate::specs::Form::linear_value))]
 fn linear_value(v: Vix, factors: [f64; 10]) -> f64
-    requires { v.n ≤ 10 }
     ensures { result ≡ linear_value v factors v.n }
 {
-    let n = v.n;
     let mut value = v.constant;
-    let mut i: usize = 0;
-    while i < n {
-        value = value + v.linear[i] * factors[i];
-        i += 1;
+    for i in 0..v.n {
+        value += v.linear[i] * factors[i];
     }
     value
 }
 
 // `before` and the pairs of row i, which begin at `first`.
+#[tactic(auto, using(generator_rows::proofs::Pairs::row_most))]
 fn row_value(v: Vix, factors: [f64; 10], i: usize, first: usize, before: f64) -> f64
-    requires { (v.n ≤ 10) × (i < v.n) × (first ≡ pairs_before v.n i) }
+    requires { (i < v.n) × (first ≡ pairs_before v.n i) }
     ensures { result ≡ row_value v factors i before (v.n - i) }
 {
-    let rest = v.n - i;
     let mut value = before;
-    let mut k: usize = 0;
-    while k < rest {
-        value = value + v.pairs[first + k] * factors[i] * factors[i + k];
-        k += 1;
+    for k in 0..v.n - i {
+        value += v.pairs[first + k] * factors[i] * factors[i + k];
     }
     value
 }
 
 // The VIX squared at these factors.
+#[tactic(auto, unfolding(crate::specs::Form::value_through))]
 pub fn raw_squared(v: Vix, factors: [f64; 10]) -> f64
-    requires { v.n ≤ 10 }
     ensures { result ≡ raw_squared (vix_in_use v) (take v.n factors) }
 {
     let n = v.n;
     let mut value = linear_value(v, factors);
-    let mut first: usize = 0;
-    let mut i: usize = 0;
-    while i < n {
+    for i in 0..n {
+        let first = state::pairs_before(n, i);
         value = row_value(v, factors, i, first, value);
-        first += n - i;
-        i += 1;
     }
     v.scale * value
 }
 
-// A form in n factors that is zero, where none is built or looked at.
-pub fn no_form(n: usize) -> Vix
-    ensures { result ≡ no_form n }
-{
-    Vix {
-        n: n,
-        scale: 0.0,
-        constant: 0.0,
-        linear: [0.0; 10],
-        pairs: [0.0; 55],
-    }
-}
-
 // 15, 1 of the window, and 16.
+#[tactic(auto, unfolding(refusal::specs::Questions::first_no, crate::specs::Questions::window_questions))]
 fn window_questions(n: usize, window: Decimal, workspace: usize) -> Outcome
     requires { n ≤ 10 }
     ensures { result ≡ first_no (window_questions n window workspace) }
 {
     let dim = state::dimension_of(n);
-    let asked = refusal::ask(
-        Outcome::Passed,
-        Refusal::Plain(15),
-        decimal::is_positive(window),
-    );
-    let asked = refusal::ask(asked, Refusal::Plain(1), decimal::scale_fits(window));
-    refusal::ask(asked, Refusal::Plain(16), workspace == 5 * (dim * dim))
-}
-
-fn refused(refusal: Refusal) -> FormAdmission
-    ensures { result.outcome ≡ Outcome.Refused refusal }
-{
-    FormAdmission {
-        outcome: Outcome::Refused(refusal),
-        form: no_form(0),
-    }
+    refusal::ensure(window.is_positive(), Refusal::Window)?;
+    refusal::ensure(window.scale_fits(), Refusal::Scale)?;
+    refusal::ensure(workspace == 5 * (dim * dim), Refusal::Workspace)
 }
 
 // The form over a window, by the exponential of the moment system's generator. Where 15, 1 or 16
 // gets a No the workspace is as lent; else what it held before is lost.
-pub fn prepare(k: Kernel, p: Params, window: Decimal, workspace: &mut [f64]) -> FormAdmission
-    requires { k.n ≤ 10 }
+pub fn prepare(k: Kernel, p: Params, window: Decimal, workspace: &mut [f64]) -> Result<Vix, Refusal>
     ensures { FormPrepared (kernel_in_use k) p window
         workspace.old workspace.new result }
 {
     let n = k.n;
-    if let Outcome::Refused(refusal) = window_questions(n, window, workspace.len()) {
-        return refused(refusal);
-    }
-    let span = decimal::double_of(window);
+    window_questions(n, window, workspace.len())?;
+    let span = window.value();
     generator::fill(k, p, span, workspace);
     let dim = state::dimension_of(n);
-    match exponential::exponential(dim, workspace) {
-        Exponentiated::NotFinite => refused(Refusal::Plain(17)),
-        Exponentiated::Done(_) => FormAdmission {
-            outcome: Outcome::Passed,
-            form: form::of_matrix(n, dim, span, workspace),
-        },
+    exponential::exponential(dim, workspace).ok_or(Refusal::Exponential)?;
+    Ok(form::of_matrix(n, dim, span, workspace))
+}
+
+// Whether a VIX squared has an index: it is finite, then it is above zero.
+#[tactic(auto, unfolding(crate::specs::Evaluation::checked))]
+pub fn check_squared(squared: f64) -> Result<(), BadSquared>
+    ensures { result ≡ checked squared }
+{
+    if !numeric::is_finite(squared) {
+        return Err(BadSquared::NotFinite);
     }
+    if squared <= 0.0 {
+        return Err(BadSquared::NotPositive);
+    }
+    Ok(())
 }
 
 // VIX squared and the index at these factors.
-pub fn evaluate(v: Vix, factors: [f64; 10]) -> Evaluated
-    requires { v.n ≤ 10 }
+#[tactic(auto, unfolding(crate::specs::Evaluation::evaluation))]
+pub fn evaluate(v: Vix, factors: [f64; 10]) -> Result<Evaluation, BadSquared>
     ensures { result ≡ evaluation (vix_in_use v) (take v.n factors) }
 {
     let squared = raw_squared(v, factors);
-    if !numeric::is_finite(squared) {
-        return Evaluated::NotFinite;
-    }
-    if squared <= 0.0 {
-        return Evaluated::NotPositive;
-    }
-    Evaluated::Done {
-        squared: squared,
+    check_squared(squared)?;
+    Ok(Evaluation {
+        squared,
         index: numeric::sqrt(squared),
-    }
+    })
 }

@@ -3,19 +3,20 @@
 
 ghost use Rattle.std.specs.Prelude.{◌≡◌};
 ghost use Rattle.refusal.specs.Questions.{first_no};
-ghost use Rattle.model.specs.Simulation.{given};
+ghost use Rattle.admission.specs.Inner.Given.{given_of};
 ghost use Rattle.vix_batch.specs.Call.{vix_batch_inputs, payoff_for, payoff_questions};
 ghost use Rattle.vix_batch.specs.Call.{VixBatchAnswered};
 ghost use Rattle.vix_batch.specs.Inner.Answer.{written};
 
+use admission::Given;
 use batch::{Priced, pricing, questions};
 use decimal::Decimal;
 use estimates::Payoff;
-use model::{Model, Schedule};
 use refusal::Outcome;
 use walks::{Batch, Observation};
 
-// A future on the index, or a vanilla on it with its style and its strike.
+// A future on the index, or a vanilla on it with its style and its strike. Flags: C has no enum
+// that carries values.
 #[repr(C)]
 #[derive(Clone, Copy)]
 pub struct VixPayoff {
@@ -33,7 +34,7 @@ pub struct Order {
 }
 
 // The values of a VIX batch, in the order in which they are reported. At a refusal they are zeros,
-// but for the steps taken.
+// but for the steps taken. A C struct: C has no Result.
 #[repr(C)]
 #[derive(Clone, Copy)]
 pub struct VixEstimate {
@@ -51,10 +52,9 @@ fn answer(priced: Priced) -> VixEstimate
     ensures { result ≡ written priced }
 {
     match priced {
-        Priced::Price(report) => {
-            let estimates = report.estimates;
-            let payoff = estimates.payoff;
-            let index = estimates.underlying;
+        Ok(report) => {
+            let payoff = report.estimates.payoff;
+            let index = report.estimates.underlying;
             VixEstimate {
                 number: 0,
                 place: [0; 4],
@@ -66,29 +66,26 @@ fn answer(priced: Priced) -> VixEstimate
                 steps: report.steps,
             }
         }
-        Priced::Refused { refusal, steps } => {
-            let number = refusal::number(refusal);
-            let place = refusal::place(refusal);
-            VixEstimate {
-                number: number,
-                place: place,
-                payoff: 0.0,
-                payoff_error: 0.0,
-                index: 0.0,
-                index_error: 0.0,
-                paths: 0,
-                steps: steps,
-            }
-        }
+        Err(refused) => VixEstimate {
+            number: refused.refusal.number(),
+            place: refused.refusal.place(),
+            payoff: 0.0,
+            payoff_error: 0.0,
+            index: 0.0,
+            index_error: 0.0,
+            paths: 0,
+            steps: refused.steps,
+        },
     }
 }
 
 // Questions 18 and 1 of the strike, which a future has not.
+#[tactic(auto, unfolding(refusal::specs::Questions::first_no))]
 fn payoff_questions(payoff: VixPayoff) -> Outcome
     ensures { result ≡ first_no (payoff_questions payoff) }
 {
     if payoff.future {
-        return Outcome::Passed;
+        return Ok(());
     }
     questions::strike_questions(payoff.strike)
 }
@@ -102,51 +99,44 @@ fn payoff_of(payoff: VixPayoff) -> Payoff
     questions::vanilla_payoff(payoff.put, payoff.strike)
 }
 
+// The questions in turn, and the price where they are passed.
+fn priced(
+    given: &Given,
+    order: Order,
+    draws: &[f64],
+    workspace: &mut [f64],
+    observations: &mut [f64],
+) -> Priced
+    ensures { VixBatchAnswered (vix_batch_inputs (given_of given.now) order draws.now)
+        workspace.old workspace.new observations.old observations.new (written result) }
+{
+    let simulation = admission::prepare(given)?;
+    let form = vix::prepare(
+        simulation.kernel,
+        simulation.params,
+        order.window,
+        workspace,
+    )?;
+    payoff_questions(order.payoff)?;
+    let batch = Batch {
+        simulation,
+        observation: Observation::VixSquared(form),
+        mirrored: false,
+        paths: order.paths,
+    };
+    pricing::price(batch, payoff_of(order.payoff), draws, observations)
+}
+
 // A row of raw VIX squared a path, a column a segment.
 pub fn price(
-    weights: &[f64],
-    discounts: &[f64],
-    model: Model,
-    schedule: Schedule,
+    given: &Given,
     order: Order,
     draws: &[f64],
     workspace: &mut [f64],
     observations: &mut [f64],
 ) -> VixEstimate
-    ensures { VixBatchAnswered
-        (vix_batch_inputs (given weights.now discounts.now model schedule)
-        order draws.now)
-        workspace.old workspace.new
-        observations.old observations.new result }
+    ensures { VixBatchAnswered (vix_batch_inputs (given_of given.now) order draws.now)
+        workspace.old workspace.new observations.old observations.new result }
 {
-    let admitted = admission::prepare(weights, discounts, model, schedule);
-    let first = admitted.outcome;
-    if let Outcome::Refused(refusal) = first {
-        return answer(Priced::Refused {
-            refusal: refusal,
-            steps: 0,
-        });
-    }
-    let simulation = admitted.simulation;
-    let kernel = simulation.kernel;
-    let params = simulation.params;
-    let formed = vix::prepare(kernel, params, order.window, workspace);
-    let second = formed.outcome;
-    let wanted = order.payoff;
-    let asked = refusal::or_later(second, payoff_questions(wanted));
-    if let Outcome::Refused(refusal) = asked {
-        return answer(Priced::Refused {
-            refusal: refusal,
-            steps: 0,
-        });
-    }
-    let form = formed.form;
-    let observation = Observation::of_vix(form);
-    let batch = Batch {
-        simulation: simulation,
-        observation: observation,
-        mirrored: false,
-        paths: order.paths,
-    };
-    answer(pricing::price(batch, payoff_of(wanted), draws, observations))
+    answer(priced(given, order, draws, workspace, observations))
 }

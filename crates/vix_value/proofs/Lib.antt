@@ -1,1 +1,1 @@
-pub mod Evaluating
+mod Evaluating

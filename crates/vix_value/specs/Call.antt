@@ -3,7 +3,8 @@
 use Rattle.std.specs.Prelude.{◌≡◌, List, [], ◌∷◌, ◌++◌, ℕ, eqb, length, Float}
 use Rattle.decimal.specs.declared.Decimal.{Decimal}
 use Rattle.decimal.specs.Decimal.{value}
-use Rattle.refusal.specs.Questions.{Question, asked, first_no, each, once_asked, KeptUnlessPassed}
+use Rattle.refusal.specs.declared.Refusal.TheVariants.{FactorCount}
+use Rattle.refusal.specs.Questions.{Question, ask, first_no, each, once_asked, KeptUnlessPassed}
 use Rattle.model.specs.declared.Model.{Model}
 use Rattle.model.specs.Kernel.{kernel_of}
 use Rattle.model.specs.Parameters.{params_of, factors_of}
@@ -36,7 +37,7 @@ vix_inputs weights discounts model window given =
 -- Rule 14.13: 10, n factors given; 1 of each.
 unfoldable pub given_questions : ℕ → Factors → List Question
 given_questions n given =
-    (asked 10 (eqb given.count n) ∷ []) ++ each (factor_questions given.factors) n
+    (ask FactorCount (eqb given.count n) ∷ []) ++ each (factor_questions given.factors) n
 
 -- Rule 15.4: 2 to 4, then 5 to 10 and 1
 unfoldable pub initial_questions : VixInputs → List Question

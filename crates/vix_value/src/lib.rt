@@ -1,11 +1,10 @@
-// The VIX evaluation call: VIX squared and the index at the factors given. The crate qrh
-// exports it to C.
+// The VIX evaluation call: VIX squared and the index at the factors given.
 #![tactic(auto)]
 
 ghost use Rattle.std.specs.Prelude.{◌≡◌, ◌≤◌};
 ghost use Rattle.refusal.specs.Questions.{first_no};
 ghost use Rattle.vix.specs.Inner.Form.{vix_in_use};
-ghost use Rattle.vix_value.specs.Answer.{refused_value, evaluated_value};
+ghost use Rattle.vix_value.specs.Answer.{value_of};
 ghost use Rattle.vix_value.specs.Call.{given_questions, vix_inputs, VixValueAnswered};
 ghost use Rattle.vix_value.specs.Inner.Given.{value_at};
 
@@ -13,7 +12,7 @@ use admission::{kernel, params};
 use decimal::Decimal;
 use model::Model;
 use refusal::{Outcome, Refusal};
-use vix::{Evaluated, Vix};
+use vix::{Evaluation, Vix};
 
 // The factors at which the VIX is wanted, in the first `count` places.
 #[repr(C)]
@@ -23,7 +22,8 @@ pub struct Factors {
     pub factors: [Decimal; 10],
 }
 
-// VIX squared and the index, which are zeros at a refusal.
+// VIX squared and the index, which are zeros at a refusal. A C struct, as every answer: number and
+// place stand beside the values, since C has no Result.
 #[repr(C)]
 #[derive(Clone, Copy)]
 pub struct VixValue {
@@ -33,55 +33,64 @@ pub struct VixValue {
     pub index: f64,
 }
 
-fn refused(refusal: Refusal) -> VixValue
-    ensures { result ≡ refused_value refusal }
-{
-    let number = refusal::number(refusal);
-    let place = refusal::place(refusal);
-    VixValue {
-        number: number,
-        place: place,
-        squared: 0.0,
-        index: 0.0,
-    }
-}
-
-fn answered(evaluated: Evaluated) -> VixValue
-    ensures { result ≡ evaluated_value evaluated }
+fn answer(evaluated: Result<Evaluation, Refusal>) -> VixValue
+    ensures { result ≡ value_of evaluated }
 {
     match evaluated {
-        Evaluated::Done { squared, index } => VixValue {
+        Ok(Evaluation { squared, index }) => VixValue {
             number: 0,
             place: [0; 4],
-            squared: squared,
-            index: index,
+            squared,
+            index,
         },
-        Evaluated::NotFinite => refused(Refusal::Plain(23)),
-        Evaluated::NotPositive => refused(Refusal::Plain(24)),
+        Err(refusal) => VixValue {
+            number: refusal.number(),
+            place: refusal.place(),
+            squared: 0.0,
+            index: 0.0,
+        },
     }
 }
 
 // 10 and 1 again.
+#[tactic(auto, unfolding(refusal::specs::Questions::first_no, crate::specs::Call::given_questions))]
 fn given_questions(n: usize, given: Factors) -> Outcome
     requires { n ≤ 10 }
     ensures { result ≡ first_no (given_questions n given) }
 {
-    let factors = given.factors;
-    let asked = refusal::ask(Outcome::Passed, Refusal::Plain(10), given.count == n);
-    refusal::or_later(asked, params::factor_scales(n, factors))
+    refusal::ensure(given.count == n, Refusal::FactorCount)?;
+    params::factor_scales(n, given.factors)
 }
 
 // The form at the factors given, once they are asked.
-fn value_at(form: Vix, given: Factors) -> VixValue
-    requires { form.n ≤ 10 }
+#[tactic(auto, unfolding(crate::specs::Inner::Given::value_at))]
+fn value_at(form: Vix, given: Factors) -> Result<Evaluation, Refusal>
     ensures { result ≡ value_at (vix_in_use form) given }
 {
     let n = form.n;
-    if let Outcome::Refused(refusal) = given_questions(n, given) {
-        return refused(refusal);
-    }
-    let factors = given.factors;
-    answered(vix::evaluate(form, params::factors_of(n, factors)))
+    given_questions(n, given)?;
+    let evaluation = vix::evaluate(form, params::factors_of(n, given.factors))?;
+    Ok(evaluation)
+}
+
+// One admission after the other, and then the form at the factors given. (No `Given`: there is no
+// schedule here.)
+fn evaluated(
+    weights: &[f64],
+    discounts: &[f64],
+    model: Model,
+    window: Decimal,
+    given: Factors,
+    workspace: &mut [f64],
+) -> Result<Evaluation, Refusal>
+    ensures { VixValueAnswered
+        (vix_inputs weights.now discounts.now model window given)
+        workspace.old workspace.new (value_of result) }
+{
+    let kernel = kernel::tables(weights, discounts)?;
+    let initial = params::try_new(kernel, model)?;
+    let form = vix::prepare(kernel, initial.params, window, workspace)?;
+    value_at(form, given)
 }
 
 pub fn evaluate(
@@ -96,20 +105,5 @@ pub fn evaluate(
         (vix_inputs weights.now discounts.now model window given)
         workspace.old workspace.new result }
 {
-    let tables = kernel::tables(weights, discounts);
-    let first = tables.outcome;
-    let k = tables.kernel;
-    let initial = params::try_new(k, model);
-    let second = initial.outcome;
-    if let Outcome::Refused(refusal) = refusal::or_later(first, second) {
-        return refused(refusal);
-    }
-    let params = initial.params;
-    let formed = vix::prepare(k, params, window, workspace);
-    let asked = formed.outcome;
-    if let Outcome::Refused(refusal) = asked {
-        return refused(refusal);
-    }
-    let form = formed.form;
-    value_at(form, given)
+    answer(evaluated(weights, discounts, model, window, given, workspace))
 }

@@ -13,8 +13,7 @@ use Rattle.numeric.proofs.Finite.{never, plus_finite, times_finite, minus_finite
 use Rattle.model.specs.declared.Kernel.{Kernel}
 use Rattle.model.specs.declared.Params.{Params}
 use Rattle.model.specs.declared.State.{State}
-use Rattle.model.specs.declared.Finiteness.TheVariants.{Finite}
-use Rattle.model.specs.Step.{variance_at, read, step, finiteness}
+use Rattle.model.specs.Step.{variance_at, read, step, finite_state, finiteness}
 use Rattle.model.specs.TimeGrid.{dt_at, sqrt_dt_at}
 use Rattle.model.specs.Walk.{Walk, state_after, stop_within}
 use Rattle.model.proofs.First.{split}
@@ -47,7 +46,7 @@ unfolding step read
 read_variance k p s g dt sqrt_dt = refl
 
 module _ (w : Walk) where
-  before : (k : ℕ) → finite (state_after w (suc (suc k))).spot ≡ true → finiteness (state_after w (suc k)) ≡ Finite
+  before : (k : ℕ) → finite (state_after w (suc (suc k))).spot ≡ true → finiteness (state_after w (suc k)) ≡ finite_state
   unfolding state_after
   before k h =
       let s = state_after w (suc k) in
@@ -55,12 +54,12 @@ module _ (w : Walk) where
       let is_read : s.variance ≡ variance_at w.simulation.params s.z = read_variance w.simulation.kernel w.simulation.params (state_after w k) (w.draw (suc k)) (dt_at w.simulation.grid (suc k)) (sqrt_dt_at w.simulation.grid (suc k)) in
       parts_finite s parts.0 (variance_finite w.simulation.params s.z (ap finite (sym is_read) ∙ parts.1)) parts.1
 
-  pub all_finite_lem : (n : ℕ) → finiteness (state_after w n) ≡ Finite → (k : ℕ) → 1 ≤ k → k ≤ n → finiteness (state_after w k) ≡ Finite
+  pub all_finite_lem : (n : ℕ) → finiteness (state_after w n) ≡ finite_state → (k : ℕ) → 1 ≤ k → k ≤ n → finiteness (state_after w k) ≡ finite_state
   all_finite_lem zero h k l m = absurd (omega arith)
   all_finite_lem (suc zero) h k l m = let e : k ≡ 1 = omega arith in rw e h
   all_finite_lem (suc (suc n)) h k l m =
       ⊎_elim (λ (z : k < suc (suc n)). all_finite_lem (suc n) (before n (finite_parts (state_after w (suc (suc n))) h).0) k l (omega arith))
       (λ (z : suc (suc n) ≤ k). let e : k ≡ suc (suc n) = omega arith in rw e h) (split k (suc (suc n)))
 
-  pub never_stopped : (n : ℕ) → finiteness (state_after w n) ≡ Finite → stop_within w n ≡ none
+  pub never_stopped : (n : ℕ) → finiteness (state_after w n) ≡ finite_state → stop_within w n ≡ none
   never_stopped n h = finite_stop w n (all_finite_lem n h)

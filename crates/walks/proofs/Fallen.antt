@@ -7,8 +7,7 @@ use native.Mathlib.Omega.{arith}
 use lib.Ieee.{Float, le}
 use Rattle.numeric.specs.Double.{plus_zero}
 use Rattle.numeric.proofs.Minimum.{smaller_below}
-use Rattle.model.specs.declared.Finiteness.TheVariants.{Finite}
-use Rattle.model.specs.Step.{finiteness}
+use Rattle.model.specs.Step.{finite_state, finiteness}
 use Rattle.model.specs.Walk.{Walk, state_after}
 use Rattle.model.specs.Inner.Admitted.{Admitted}
 use Rattle.model.proofs.FiniteStates.{walk_sound}
@@ -16,12 +15,12 @@ use Rattle.model.proofs.Lowest.{start_lowest, step_lowest}
 use Rattle.walks.specs.Batch.{non_positive_by}
 
 module _ (w : Walk) (ok : Admitted w.simulation) where
-  pub fallen_lowest : (k : ℕ) → ((j : ℕ) → 1 ≤ j → j ≤ k → finiteness (state_after w j) ≡ Finite)
+  pub fallen_lowest : (k : ℕ) → ((j : ℕ) → 1 ≤ j → j ≤ k → finiteness (state_after w j) ≡ finite_state)
       → non_positive_by w k ≡ le (state_after w k).lowest plus_zero
   unfolding non_positive_by state_after
   fallen_lowest zero h = sym (ap (λ (x : Float). le x plus_zero) (start_lowest w ok) ∙ ok.params.spot_above)
   fallen_lowest (suc k) h =
-      let earlier : (j : ℕ) → 1 ≤ j → j ≤ k → finiteness (state_after w j) ≡ Finite = λ j l n. h j l (omega arith) in
+      let earlier : (j : ℕ) → 1 ≤ j → j ≤ k → finiteness (state_after w j) ≡ finite_state = λ j l n. h j l (omega arith) in
       let old = (state_after w k).lowest in
       let new = (state_after w (suc k)).spot in
       ap (λ (b : Bool). b || le new plus_zero) (fallen_lowest k earlier)

@@ -19,13 +19,11 @@ use Rattle.model.specs.Inner.InUse.{grid_in_use}
 use Rattle.model.specs.Step.{step, finiteness}
 use Rattle.model.specs.Inner.InUse.{state_in_use}
 use Rattle.model.proofs.Containment.{Reached, reached_in_use, dt_reached, sqrt_dt_reached}
-use Rattle.vix.specs.declared.Vix.{Vix}
-use Rattle.vix.specs.Inner.Form.{vix_in_use}
 use Rattle.vix.proofs.InUse.{squared_in_use}
-use Rattle.walks.specs.declared.Observed.{Observed}
-use Rattle.walks.specs.declared.Observed.TheVariants.{Spot, VixSquared}
+use Rattle.walks.specs.declared.Observation.{Observation}
+use Rattle.walks.specs.declared.Observation.TheVariants.{Spot, VixSquared}
 use Rattle.walks.specs.Batch.{draw_place, draws_needed}
-use Rattle.walks.specs.Inner.Handed.{observation_of}
+use Rattle.walks.specs.Inner.Handed.{factors_read, observe_by}
 use Rattle.walks.proofs.Cells.{row_last}
 
 -- the code's 0.0
@@ -40,9 +38,9 @@ draws_within true paths total path even p =
     row_last (path / 2) (paths / 2) total total (omega (arith, even refl)) (le_refl total)
 
 -- an observation reads the factors in use
-pub observed_in_use : (o : Observed) (v : Vix) (n : ℕ) → v.n ≤ n → (s : State) → observation_of o (vix_in_use v) (state_in_use v.n s) ≡ observation_of o (vix_in_use v) (state_in_use n s)
-observed_in_use Spot v n h s = refl
-observed_in_use VixSquared v n h s =
+pub observed_in_use : (o : Observation) (n : ℕ) → factors_read o ≤ n → (s : State) → observe_by o (state_in_use (factors_read o) s) ≡ observe_by o (state_in_use n s)
+observed_in_use Spot n h s = refl
+observed_in_use (VixSquared v) n h s =
     squared_in_use v v.n (omega arith) s.factors ∙ sym (squared_in_use v n h s.factors)
 
 step_with : (k : Kernel) (p : Params) (s : State) {g g' dt dt' root root' : Float} → g ≡ g' → dt ≡ dt' → root ≡ root' → step k p s g dt root ≡ step k p s g' dt' root'

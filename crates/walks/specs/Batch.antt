@@ -1,5 +1,6 @@
 -- A batch of paths: each path's draws and plain walk, and what is observed of it. Definitions only.
-use Rattle.std.specs.Prelude.{Bool, true, false, cond, ◌||◌, List, ℕ, zero, suc, pred, ◌+◌, ◌*◌, ◌/◌, ◌%◌, eqb, get_or, Float}
+use Rattle.std.specs.Prelude.{Bool, true, false, cond, ◌||◌, List, ℕ, zero, suc, pred, Float}
+use Rattle.std.specs.Prelude.{◌+◌, ◌*◌, ◌/◌, ◌%◌, eqb, get_or}
 use Rattle.std.specs.Float.{nan}
 use Rattle.std.specs.Float.Ieee.{neg, le}
 use Rattle.numeric.specs.Double.{plus_zero}
@@ -35,7 +36,8 @@ negated_if false g = g
 
 -- Rule 9.2: the draw of step k of path p, among those lent
 abbrev pub draw_of : Bool → List Float → ℕ → ℕ → ℕ → Float
-draw_of true draws total p k = negated_if (eqb (p % 2) 0) (get_or draws (draw_place true total p k) nan)
+draw_of true draws total p k =
+    negated_if (eqb (p % 2) 0) (get_or draws (draw_place true total p k) nan)
 draw_of false draws total p k = get_or draws (draw_place false total p k) nan
 
 -- Rule 9.3: how many draws a batch needs

@@ -4,25 +4,26 @@
 ghost use Rattle.std.specs.Prelude.{◌≡◌, suc, ◌+◌, ◌<◌, ◌≤◌, length, get_or};
 ghost use Rattle.std.specs.Float.{nan};
 ghost use Rattle.model.specs.Inner.InUse.{state_in_use};
-ghost use Rattle.vix.specs.Inner.Form.{no_form};
 ghost use Rattle.walks.specs.Batch.{draw_place, draw_of};
-ghost use Rattle.walks.specs.Inner.Handed.{observe_by};
+ghost use Rattle.walks.specs.Inner.Handed.{observed_of, factors_read, observe_by};
 
 use model::{Simulation, State, draws};
 use vix::Vix;
 
-// What an observation at a segment's end reads off a state.
+// What an observation at a segment's end reads off a state: the kind alone, which is all that the
+// payoff and the estimates ask for.
 #[derive(Clone, Copy)]
 pub enum Observed {
     Spot,
     VixSquared,
 }
 
-// What is observed, with the form that the VIX is read off; of a spot no form is looked at.
+// What is observed, with the form that the VIX is read off. An enum and no closure: it lies in the
+// batch by value, and the form was asked for (docs/DECISIONS.md).
 #[derive(Clone, Copy)]
-pub struct Observation {
-    pub observed: Observed,
-    pub form: Vix,
+pub enum Observation {
+    Spot,
+    VixSquared(Vix),
 }
 
 // The paths of a batch. In a mirrored one path 2i has the draws of path 2i - 1, negated.
@@ -34,22 +35,21 @@ pub struct Batch {
     pub paths: usize,
 }
 
-impl Observation {
-    pub fn of_spot() -> Observation
-        ensures { result ≡ record { observed = Observed.Spot; form = no_form 0 } }
-    {
-        Observation {
-            observed: Observed::Spot,
-            form: vix::no_form(0),
-        }
-    }
+// The draws of a batch, `total` for each path or, in a mirrored one, for each pair of paths.
+#[derive(Clone, Copy)]
+pub struct Draws<'a> {
+    pub values: &'a [f64],
+    pub mirrored: bool,
+    pub total: usize,
+}
 
-    pub fn of_vix(form: Vix) -> Observation
-        ensures { result ≡ record { observed = Observed.VixSquared; form = form } }
+impl Observation {
+    pub fn observed(self) -> Observed
+        ensures { result ≡ observed_of self }
     {
-        Observation {
-            observed: Observed::VixSquared,
-            form: form,
+        match self {
+            Observation::Spot => Observed::Spot,
+            Observation::VixSquared(_) => Observed::VixSquared,
         }
     }
 }
@@ -64,34 +64,32 @@ fn path_draw(draws: &[f64], first: usize, total: usize, at: usize) -> f64
     draws::take_draw(&draws[first..end], at)
 }
 
-// The draw of step `at` + 1 of path `path` + 1. In a mirrored batch two paths share their draws,
-// and the second has them negated.
-pub fn draw_at(mirrored: bool, draws: &[f64], total: usize, path: usize, at: usize) -> f64
-    requires at_lt_total { at < total }
-    requires total_in_bounds { draw_place mirrored total (suc path) (suc total) ≤ length draws.now }
-    ensures { result ≡ draw_of mirrored draws.now total (suc path) (suc at) }
-{
-    if mirrored {
-        let g = path_draw(draws, path / 2 * total, total, at);
-        if path % 2 == 1 {
-            return -g;
+impl<'a> Draws<'a> {
+    // The draw of step `at` + 1 of path `path` + 1. In a mirrored batch two paths share their
+    // draws, and the second has them negated.
+    pub fn at(&self, path: usize, at: usize) -> f64
+        requires at_lt_total { at < self.now.total }
+        requires total_in_bounds { draw_place self.now.mirrored self.now.total (suc path)
+            (suc self.now.total) ≤ length self.now.values.now }
+        ensures { result ≡ draw_of self.now.mirrored self.now.values.now self.now.total
+            (suc path) (suc at) }
+    {
+        if self.mirrored {
+            let g = path_draw(self.values, path / 2 * self.total, self.total, at);
+            if path % 2 == 1 {
+                return -g;
+            }
+            return g;
         }
-        return g;
+        path_draw(self.values, path * self.total, self.total, at)
     }
-    path_draw(draws, path * total, total, at)
 }
 
 pub fn observe(observation: Observation, s: State) -> f64
-    requires { observation.form.n ≤ 10 }
-    ensures { result ≡ observe_by observation (state_in_use observation.form.n s) }
+    ensures { result ≡ observe_by observation (state_in_use (factors_read observation) s) }
 {
-    let observed = observation.observed;
-    match observed {
-        Observed::Spot => s.spot,
-        Observed::VixSquared => {
-            let form = observation.form;
-            let factors = s.factors;
-            vix::raw_squared(form, factors)
-        }
+    match observation {
+        Observation::Spot => s.spot,
+        Observation::VixSquared(form) => vix::raw_squared(form, s.factors),
     }
 }

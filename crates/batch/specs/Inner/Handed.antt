@@ -1,23 +1,21 @@
 -- What the functions of a batch promise each other. Definitions only.
 use Rattle.std.specs.Prelude.{◌≡◌, List, ℕ, ◌≤◌, length, Float}
+use Rattle.std.specs.Prelude.{Ok}
 use Rattle.refusal.specs.Questions.{first_no, once_asked}
 use Rattle.model.specs.Inner.InUse.{simulation_in_use}
 use Rattle.model.specs.Inner.Laid.{Laid}
 use Rattle.model.specs.Inner.Admitted.{Admitted}
 use Rattle.walks.specs.declared.Batch.{Batch as Handed}
 use Rattle.walks.specs.Batch.{Batch}
-use Rattle.walks.specs.Inner.Handed.{batch_of}
+use Rattle.walks.specs.Inner.Handed.{observed_of, factors_read, batch_of}
 use Rattle.estimates.specs.declared.Payoff.{Payoff}
 use Rattle.estimates.specs.Moments.{estimates_from, not_finite}
 use Rattle.paths.specs.declared.Walked.{Walked}
-use Rattle.paths.specs.declared.Run.{Run}
-use Rattle.paths.specs.declared.Run.TheVariants as run
 use Rattle.paths.specs.Run.{table_after}
 use Rattle.tally.specs.Inner.Rows.{last_observation}
-use Rattle.batch.specs.declared.Priced.{Priced}
-use Rattle.batch.specs.declared.Priced.TheVariants.{Price, Refused}
 use Rattle.batch.specs.Questions.{batch_questions}
-use Rattle.batch.specs.Report.{last_questions, unless_not_finite, refused_after, priced_run}
+use Rattle.batch.specs.Report.{Priced, last_questions, unless_not_finite, refused_after}
+use Rattle.batch.specs.Report.{priced_run}
 use Rattle.batch.specs.Claim.{BatchClaim, answer_of}
 use Rattle.batch.specs.Answered.{BatchAnswered}
 
@@ -28,7 +26,7 @@ unfolding estimates_from not_finite
 reported_of w paths =
     let made = estimates_from w.tally in
     unless_not_finite (not_finite made) (refused_after w.steps)
-    (Price
+    (Ok
     (record {
       estimates = made;
       paths = paths;
@@ -41,14 +39,10 @@ unfolding reported_of first_no
 priced_from w b table =
     once_asked
     (first_no
-    (last_questions b.observation.observed
+    (last_questions (observed_of b.observation)
     (last_observation table b.simulation.grid.count)
     b.paths))
     (refused_after w.steps) (reported_of w b.paths)
-
-abbrev pub priced_after : Run → Handed → List Float → Priced
-priced_after (run.NonFinite refusal steps) b table = Refused refusal steps
-priced_after (run.Done w) b table = priced_from w b table
 
 pub record BatchPriced (b : Batch) (payoff : Payoff) (lent after : List Float) (r : Priced)
     : Type 0 where
@@ -63,7 +57,7 @@ pub record BatchPriced (b : Batch) (payoff : Payoff) (lent after : List Float) (
 pub record Ready (b : Handed) : Type 0 where
   pub admitted : Admitted (simulation_in_use b.simulation)
   pub laid : Laid b.simulation.grid
-  pub form : b.observation.form.n ≤ b.simulation.kernel.n
+  pub form : factors_read b.observation ≤ b.simulation.kernel.n
 
 -- 19 to 21, and the price where they are passed
 abbrev pub PricedOnceAsked :

@@ -1,7 +1,6 @@
--- `rows::mean_coefficients` meets its contract. Assumes nothing.
+-- `mean_coefficients` meets its contract. Assumes nothing.
 use mathlib.Core.Path.{◌≡◌}
 use mathlib.Core.List.{[], ◌∷◌}
-use Prim.Native.Nat.{◌-◌, ◌≤◌}
 use lib.ListN.{length}
 use Rattle.model.specs.Inner.InUse.{kernel_in_use}
 use Rattle.generator_rows.specs.Inner.Appended.{Appended}
@@ -10,9 +9,9 @@ use Rattle.generator_rows.specs.Rows.{mean_coefficient}
 use Rattle.generator_rows.proofs.mean_coefficients.Given as goal
 
 abbrev pub invariant-loop-i : goal.invariant-loop-i
-invariant-loop-i l =
-    (l.i ≤ l.n) × (l.n ≤ 10) × (l.n ≡ l.k.n) × (length l.row ≡ 67) × Appended 0 (joined (λ i. mean_coefficient (kernel_in_use l.k) l.p i ∷ []) l.i) l.initial.row l.row
-
-abbrev pub decreases-loop-i : goal.decreases-loop-i
-decreases-loop-i l =
-    l.n - l.i
+invariant-loop-i l = record {
+  long : length l.row ≡ 67;
+  written :
+      Appended 0 (joined (λ i. mean_coefficient (kernel_in_use l.fn.k) l.p i ∷ []) l.i)
+      l.initial.row l.row;
+}

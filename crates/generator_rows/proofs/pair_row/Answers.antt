@@ -1,7 +1,6 @@
-use mathlib.Core.Path.{refl, ap, ◌∙◌}
+use mathlib.Core.Path.{ap, ◌∙◌}
 use Prim.Native.Nat.{◌<◌}
 use native.Mathlib.Omega.{arith}
-use borrow.Author.Rules.{rules}
 use lib.ListN.{length, get_or, length-set}
 use lib.Seq.{get_or-set_other}
 use lib.Ieee.{Float, nan}
@@ -11,34 +10,29 @@ use Rattle.generator_rows.proofs.Places.{dimension_most}
 use Rattle.generator_rows.proofs.Additions.{pair_all}
 use Rattle.generator_rows.proofs.pair_row.Goals as goal
 
-pub loop-column-init : goal.loop-column-init
-loop-column-init c = (
-  omega arith,
-  omega (arith, c.dimension_of-dim.ensures, dimension_most c.requires.n_bound.0),
-  search rules,
-  search rules,
-  (λ x b. absurd (omega arith)),
-  (λ x b. refl),
-)
-
 pub loop-column-preserved : goal.loop-column-preserved
 loop-column-preserved c =
-    let at = c.before in
-    let start = at.before.before.before.before in
-    let inside : at.loop-column.column < length at.loop-column.row = omega arith in (
-      omega arith,
-      at.loop-column.invariant.1,
-      at.loop-column.invariant.2,
-      length-set at.loop-column.row _ _ ∙ at.loop-column.invariant.3,
-      fill_next nan _ at.loop-column.row at.loop-column.column _ inside at.loop-column.invariant.4
-          (ap (λ (x : Float). plus x (times (times start.args.p.eta start.args.p.eta) (get_or start.args.variance at.loop-column.column nan)))
-          (at.loop-column.invariant.5 at.loop-column.column (omega arith))),
-      (λ x b. get_or-set_other at.loop-column.row at.loop-column.column x _ nan (λ e. absurd (omega arith)) ∙ at.loop-column.invariant.5 x (omega arith)),
-    )
+    let row = c.loop-column.row in
+    let column = c.loop-column.column in
+    let kept = c.loop-column.invariant.rest in
+    let term =
+    times (times c.args.p.eta c.args.p.eta) (get_or c.args.variance.now column nan) in
+    let most = dimension_most c.k.invariant in
+    let inside : column < length row = omega arith in
+    record {
+      long = length-set row _ _ ∙ c.loop-column.invariant.long;
+      done =
+          fill_next nan _ row column _ inside c.loop-column.invariant.done
+          (ap (λ (x : Float). plus x term) (kept column (omega arith)));
+      rest = λ x b.
+          get_or-set_other row column x _ nan (λ e. absurd (omega arith)) ∙ kept x (omega arith);
+    }
 
 pub returns : goal.returns
 returns c =
-    let start = c.before.before.before.before.before in
-    pair_all start.args.k start.args.p start.args.i start.args.j start.args.variance c.drift_row-row.result c.loop-column.row
-    c.loop-column.invariant.3 start.requires.n_bound.0 start.requires.variance_value c.drift_row-row.ensures
-    (λ column b. c.loop-column.invariant.4 column (omega (arith, c.dimension_of-dim.ensures)))
+    let variance = rw (← c.k.view_is) at c.requires.variance_value in
+    let drift = rw (← c.k.view_is) at c.drift_row-row.ensures in
+    rw (← c.k.view_is)
+    (pair_all _ _ _ _ c.args.variance.now c.drift_row-row.result c.loop-column.row
+    c.loop-column.invariant.long c.k.invariant variance drift
+    (λ column b. c.loop-column.invariant.done column (omega arith)))

@@ -1,14 +1,14 @@
--- `rows::variance_row` meets its contract. Assumes nothing.
+-- `variance_row` meets its contract. Assumes nothing.
 use mathlib.Core.Path.{◌≡◌}
 use mathlib.Core.List.{List, [], ◌∷◌}
-use Prim.Native.Nat.{ℕ, ◌+◌, ◌-◌, ◌≤◌}
+use Prim.Native.Nat.{ℕ}
 use lib.ListN.{length}
 use lib.Ieee.{Float}
 use Rattle.model.specs.declared.Kernel.{Kernel}
 use Rattle.model.specs.declared.Params.{Params}
 use Rattle.model.specs.Inner.InUse.{kernel_in_use}
 use Rattle.generator_rows.specs.Inner.Appended.{Appended}
-use Rattle.generator_rows.specs.State.{pairs_before, pairs_of_rows}
+use Rattle.generator_rows.specs.State.{pairs_of_rows}
 use Rattle.generator_rows.specs.Rows.{pair_coefficient}
 use Rattle.generator_rows.proofs.variance_row.Given as goal
 
@@ -16,9 +16,8 @@ abbrev pub coefficient : Kernel → Params → ℕ → ℕ → List Float
 coefficient k p i j = pair_coefficient (kernel_in_use k) p i j ∷ []
 
 abbrev pub invariant-loop-i : goal.invariant-loop-i
-invariant-loop-i l =
-    (l.i ≤ l.n) × (l.n ≤ 10) × (l.n ≡ l.k.n) × (l.at ≡ l.n + pairs_before l.n l.i) × (l.at ≤ 65) × (length l.row ≡ 67) × Appended l.n (pairs_of_rows (coefficient l.k l.p) l.n l.i) l.initial.row l.row
-
-abbrev pub decreases-loop-i : goal.decreases-loop-i
-decreases-loop-i l =
-    l.n - l.i
+invariant-loop-i l = record {
+  long : length l.row ≡ 67;
+  written :
+      Appended l.fn.k.n (pairs_of_rows (coefficient l.fn.k l.p) l.fn.k.n l.i) l.initial.row l.row;
+}

@@ -20,13 +20,7 @@ fewer v factors n l h =
     ∙ sym (squared_in_use v n h (lane_factors n factors l))
     ∙ ap (raw_squared (vix_in_use v)) (lane_take n n l factors (omega arith))
 
-pub returns-in-Spot : goal.returns-in-Spot
-returns-in-Spot c =
-    λ n l few h. sym (rw c.in-Spot.is)
-
 pub returns-in-VixSquared : goal.returns-in-VixSquared
 returns-in-VixSquared c =
-    let args = c.args in
-    λ n l few h.
-    c.squared.ensures l h ∙ fewer args.observation.form args.factors.now n l few
-    ∙ sym (rw c.in-VixSquared.is)
+    let v = c.in-VixSquared.form in
+    rw c.in-VixSquared.is (λ n l few h. c.squared.ensures l h ∙ fewer v c.args.factors.now n l few)

@@ -8,7 +8,7 @@ use Rattle.model.specs.Walk.{state_after, stop_within}
 use Rattle.walks.specs.declared.Batch.{Batch as Handed}
 use Rattle.walks.specs.declared.Observation.{Observation}
 use Rattle.walks.specs.Batch.{Batch, walk_of, draw_place, observation}
-use Rattle.walks.specs.Inner.Handed.{observe_by}
+use Rattle.walks.specs.Inner.Handed.{factors_read, observe_by}
 use Rattle.lanes.specs.declared.Lanes.{Lanes}
 use Rattle.lanes.specs.Inner.Lanes.{lane_of}
 
@@ -25,27 +25,24 @@ pub record FourWalked (b : Batch) (path : ℕ) (rows lowest : List Float) : Type
       ≡ observation b (suc (path + l)) (suc j)
 
 -- what the walk is handed
-pub record GroupPrepared (b : Handed) (path : ℕ) (draws rows : List Float) : Type 0 where
-  pub few : b.simulation.kernel.n ≤ 10
-  pub form : b.observation.form.n ≤ b.simulation.kernel.n
+pub record GroupPrepared (b : Handed) (path : ℕ) (draws : List Float) : Type 0 where
+  pub form : factors_read b.observation ≤ b.simulation.kernel.n
   pub laid : Laid b.simulation.grid
   pub most : path ≤ 65536
   pub drawn : (l : ℕ) → l < 4
       → draw_place b.mirrored b.simulation.grid.total (suc (path + l))
       (suc b.simulation.grid.total)
       ≤ length draws
-  pub rows_long : length rows ≡ 256
 
 -- Rule 9.1: what is observed in each lane, of states of as many factors as the form has, or more
 abbrev pub ObservedLanes : Observation → Lanes → List Float → List Float → Type 0
 ObservedLanes observation s factors values =
-    (n l : ℕ) → observation.form.n ≤ n → l < 4
+    (n l : ℕ) → factors_read observation ≤ n → l < 4
     → get_or values l nan ≡ observe_by observation (lane_of n s factors l)
 
 -- a column of the four rows
 pub record Column (values : List Float) (count segment : ℕ) (before after : List Float)
     : Type 0 where
-  pub long : length after ≡ length before
   pub new : (l : ℕ) → l < 4 → get_or after (l * count + segment) nan ≡ get_or values l nan
   pub kept : (l j : ℕ) → l < 4 → j < count → (j ≡ segment → ⊥)
       → get_or after (l * count + j) nan ≡ get_or before (l * count + j) nan

@@ -1,5 +1,5 @@
 -- `lanes::spread` meets its contract. Assumes nothing.
-use Prim.Native.Nat.{ℕ, ◌-◌, ◌/◌, ◌≤◌, ◌<◌}
+use Prim.Native.Nat.{ℕ, ◌/◌, ◌<◌}
 use mathlib.Core.Path.{◌≡◌}
 use lib.ListN.{length, get_or}
 use lib.Ieee.{nan}
@@ -7,8 +7,4 @@ use Rattle.lanes.proofs.spread.Given as goal
 
 abbrev pub invariant-loop-x : goal.invariant-loop-x
 invariant-loop-x l =
-    (l.x ≤ l.end) × (l.end ≤ 40) × (length l.factors ≡ 40) × ((y : ℕ) → y < l.x → get_or l.factors y nan ≡ get_or l.values (y / 4) nan)
-
-abbrev pub decreases-loop-x : goal.decreases-loop-x
-decreases-loop-x l =
-    l.end - l.x
+    (length l.factors ≡ 40) × ((y : ℕ) → y < l.x → get_or l.factors y nan ≡ get_or l.values (y / 4) nan)

@@ -11,7 +11,6 @@ use Rattle.model.specs.declared.State.{State}
 use Rattle.model.specs.Step.{weighted_sum, step}
 use Rattle.model.specs.Inner.InUse.{kernel_in_use}
 use Rattle.lanes.specs.declared.Lanes.{Lanes}
-use Rattle.lanes.specs.declared.Tried.{Tried}
 
 -- lane l of a table of n factors: factor i of it stands at 4 * i + l
 abbrev pub lane_factors : ℕ → List Float → ℕ → List Float
@@ -37,21 +36,19 @@ pub record AllAt (start : State) (s : Lanes) : Type 0 where
 
 -- Rule 7.4: and every lane has the first n of these factors
 pub record Spread (n : ℕ) (values after : List Float) : Type 0 where
-  pub long : length after ≡ 40
+  pub enough : n ≤ length values
   pub new : (i l : ℕ) → i < n → l < 4 → get_or after (4 * i + l) nan ≡ get_or values i nan
 
 -- Rule 7.3: the four factors from place `at` on become (factor + forcing) / divisor, and the others
 -- stay
 pub record RowMoved (forcing : List Float) (divisor : Float) (at : ℕ) (before after : List Float)
     : Type 0 where
-  pub long : length after ≡ length before
   pub new : (l : ℕ) → l < 4 → get_or after (at + l) nan
       ≡ over (plus (get_or before (at + l) nan) (get_or forcing l nan)) divisor
   pub kept : (x : ℕ) → (x < at) ⊎ (at + 4 ≤ x) → get_or after x nan ≡ get_or before x nan
 
 -- Rules 7.3 and 5.5: every factor is moved, and z has the sum of weight × factor of each lane
 pub record LanesMoved (n : ℕ) (forcing divisors weights before after z : List Float) : Type 0 where
-  pub long : length after ≡ length before
   pub new : (i l : ℕ) → i < n → l < 4 → get_or after (4 * i + l) nan
       ≡ over (plus (get_or before (4 * i + l) nan) (get_or forcing l nan)) (get_or divisors i nan)
   pub sum : (l : ℕ) → l < 4 → get_or z l nan ≡ weighted_sum weights (lane_factors n after l) n
@@ -67,16 +64,8 @@ LaneSteps k p s g rates before after next l =
 -- Rule 7.2: each lane takes a step where it is given the root of its variance
 pub record LanesStepped (roots : List Float) (k : Kernel) (p : Params) (s : Lanes)
     (g : List Float) (rates : Rates) (before after : List Float) (next : Lanes) : Type 0 where
-  pub long : length after ≡ length before
   pub lane : (l : ℕ) → l < 4 → get_or roots l nan ≡ root binary64 (get_or s.variance l nan)
       → LaneSteps k p s g rates before after next l
-
--- Rule 7.2: each lane takes a step where the answer is sure
-pub record StepTried (k : Kernel) (p : Params) (s : Lanes) (g : List Float) (rates : Rates)
-    (before after : List Float) (tried : Tried) : Type 0 where
-  pub long : length after ≡ length before
-  pub lane : tried.sure ≡ true → (l : ℕ) → l < 4
-      → LaneSteps k p s g rates before after tried.lanes l
 
 -- Rule 7.5: the state of lane l is finite
 pub record FiniteLane (s : Lanes) (l : ℕ) : Type 0 where

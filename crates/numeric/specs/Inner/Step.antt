@@ -1,14 +1,5 @@
 -- What the steps of the root of rule 4.2 say to each other, in whole numbers. Definitions only.
-use Rattle.std.specs.Prelude.{◌≡◌, ℕ, ◌+◌, ◌-◌, ◌*◌, ◌/◌, ◌^◌, ◌<◌, ◌≤◌, Bool, ◌&&◌, nat_le, nat_lt}
-
--- the whole part of t * (t + 1) / 2 ^ 52
-abbrev pub part : ℕ → ℕ
-part t = t * (t + 1) / 2 ^ 52
-
--- t squared, in two parts
-pub record Square (t high low : ℕ) : Type 0 where
-  pub value : high * 2 ^ 52 + low ≡ t * t
-  pub fits : low < 2 ^ 52
+use Rattle.std.specs.Prelude.{ℕ, ◌+◌, ◌-◌, ◌*◌, ◌^◌, ◌<◌, ◌≤◌, Bool, ◌&&◌, nat_le, nat_lt}
 
 -- a significand of 53 digits, or of 54 and then even
 pub record Significand (m : ℕ) : Type 0 where

@@ -1,13 +1,8 @@
 -- `schedule::from_segments` meets its contract. After i segments, each is asked, converted and laid
 -- after the one before. Assumes nothing.
-use Prim.Native.Nat.{◌≤◌, ◌-◌}
 use Rattle.schedule.proofs.Laying.{Laying}
 use Rattle.schedule.proofs.from_segments.Given as goal
 
 abbrev pub invariant-loop-i : goal.invariant-loop-i
 invariant-loop-i l =
-    (l.i ≤ l.count) × Laying (record { count = l.count; segments = l.segments }) l.dt l.sqrt_dt l.last l.total l.i
-
-abbrev pub decreases-loop-i : goal.decreases-loop-i
-decreases-loop-i l =
-    l.count - l.i
+    Laying (record { count = l.count; segments = l.segments }) l.dt l.sqrt_dt l.last l.total l.i

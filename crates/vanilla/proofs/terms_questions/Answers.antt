@@ -1,15 +1,20 @@
 -- `terms_questions` meets its contract: those of the strike, and those of a barrier after them.
 -- Assumes nothing.
 use mathlib.Core.Path.{sym}
-use Rattle.refusal.proofs.Laws.{append}
-use Rattle.batch.specs.Questions.{strike_questions}
+use Rattle.refusal.proofs.Laws.{exits, stops, then}
+use Rattle.batch.specs.Questions.{strike_questions, barrier_questions}
 use Rattle.vanilla.proofs.terms_questions.Goals as goal
 
-pub returns-in-Vanilla : goal.returns-in-Vanilla
-returns-in-Vanilla c =
-    rw (c.in-Vanilla.is, c.strike_questions.ensures)
+pub returns-in_err-strike_questions-in-DownAndOut : goal.returns-in_err-strike_questions-in-DownAndOut
+returns-in_err-strike_questions-in-DownAndOut c =
+    let strike = strike_questions c.in-DownAndOut.strike in
+    let barrier = barrier_questions c.in-DownAndOut.barrier in
+    rw (c.in-DownAndOut.is, exits _ _ c.from_residual.ensures.1)
+    (sym (stops strike barrier _ (sym c.in_err-strike_questions-in-DownAndOut.ensures)))
 
-pub returns-in-DownAndOut : goal.returns-in-DownAndOut
-returns-in-DownAndOut c =
-    rw (c.or_later.ensures, c.barrier_questions-later.ensures, c.strike_questions-first.ensures, c.in-DownAndOut.is)
-    (sym (append (strike_questions _) _))
+pub returns-in_ok-strike_questions-in-DownAndOut : goal.returns-in_ok-strike_questions-in-DownAndOut
+returns-in_ok-strike_questions-in-DownAndOut c =
+    let strike = strike_questions c.in-DownAndOut.strike in
+    let barrier = barrier_questions c.in-DownAndOut.barrier in
+    rw (c.in-DownAndOut.is, c.barrier_questions.ensures)
+    (sym (then strike barrier (sym c.in_ok-strike_questions-in-DownAndOut.ensures)))

@@ -10,9 +10,5 @@ use Rattle.vix_lanes.proofs.add_pairs.Given as goal
 
 abbrev pub invariant-loop-m : goal.invariant-loop-m
 invariant-loop-m l =
-    (l.m ≤ l.rest) × (l.rest ≡ l.n - l.i) × (l.first + l.rest ≤ 55)
+    (l.first + (l.n - l.i) ≤ 55)
     × ((v : Vix) (j : ℕ) → v.n ≡ l.n → v.pairs ≡ l.pairs → j < 4 → get_or l.sum j nan ≡ row_value v (lane_factors l.n l.factors j) l.i (get_or l.initial.sum j nan) l.m)
-
-abbrev pub decreases-loop-m : goal.decreases-loop-m
-decreases-loop-m l =
-    l.rest - l.m

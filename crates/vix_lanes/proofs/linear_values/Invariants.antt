@@ -1,6 +1,6 @@
 -- `vix_lanes::linear_values` meets its contract. Assumes nothing.
 use mathlib.Core.Path.{◌≡◌}
-use Prim.Native.Nat.{ℕ, ◌-◌, ◌≤◌, ◌<◌}
+use Prim.Native.Nat.{ℕ, ◌<◌}
 use lib.ListN.{get_or}
 use lib.Ieee.{nan}
 use Rattle.vix.specs.declared.Vix.{Vix}
@@ -10,9 +10,4 @@ use Rattle.vix_lanes.proofs.linear_values.Given as goal
 
 abbrev pub invariant-loop-i : goal.invariant-loop-i
 invariant-loop-i l =
-    (l.i ≤ l.n)
-    × ((v : Vix) (j : ℕ) → v.constant ≡ l.constant → v.linear ≡ l.linear → j < 4 → get_or l.value j nan ≡ linear_value v (lane_factors l.n l.factors j) l.i)
-
-abbrev pub decreases-loop-i : goal.decreases-loop-i
-decreases-loop-i l =
-    l.n - l.i
+    (v : Vix) (j : ℕ) → v.constant ≡ l.constant → v.linear ≡ l.linear → j < 4 → get_or l.value j nan ≡ linear_value v (lane_factors l.n l.factors j) l.i

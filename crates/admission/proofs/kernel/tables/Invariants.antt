@@ -1,13 +1,9 @@
--- `admission::kernel::tables` meets its contract. After i entries, those of both tables are asked
--- and copied. Assumes nothing.
-use Prim.Native.Nat.{◌≤◌, ◌-◌}
-use Rattle.admission.proofs.Entries.{Copied}
+-- `admission::kernel::tables` meets its contract. After i entries, those of both tables are asked.
+-- Assumes nothing.
+use Rattle.std.proofs.Common.{◌≡◌}
+use Rattle.refusal.specs.Questions.{first_no, each, passed}
+use Rattle.admission.specs.Questions.{entry_questions}
 use Rattle.admission.proofs.kernel.tables.Given as goal
 
 abbrev pub invariant-loop-i : goal.invariant-loop-i
-invariant-loop-i l =
-    (l.i ≤ l.n) × Copied l.weights l.discounts l.kept_weights l.kept_discounts l.i
-
-abbrev pub decreases-loop-i : goal.decreases-loop-i
-decreases-loop-i l =
-    l.n - l.i
+invariant-loop-i l = first_no (each (entry_questions l.weights l.discounts) l.i) ≡ passed

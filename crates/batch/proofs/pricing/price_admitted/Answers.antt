@@ -1,21 +1,16 @@
 -- `pricing::price_admitted` meets its contract. Assumes nothing.
-use mathlib.Core.Path.{◌∙◌}
-use Rattle.batch.proofs.Claim.{run_long, batch_priced}
+use Rattle.std.proofs.lemmas.Result.{err_from_is_err_and}
+use Rattle.batch.proofs.Claim.{run_refused, run_priced}
 use Rattle.batch.proofs.pricing.price_admitted.Goals as goal
 
-pub run_paths-ran-requires : goal.run_paths-ran-requires
-run_paths-ran-requires c =
-    c.requires
-
-pub priced_after-requires : goal.priced_after-requires
-priced_after-requires c =
-    record { le_count = c.requires.laid.some; observations_len = run_long c.run_paths-ran.ensures ∙ c.requires.rows }
-
-pub shape_of-observations : goal.shape_of-observations
-shape_of-observations c =
-    run_long c.run_paths-ran.ensures
+pub returns-in_err-walked : goal.returns-in_err-walked
+returns-in_err-walked c =
+    let p = err_from_is_err_and c.from_residual.result c.from_residual.ensures.1 in
+    rw (p.1, p.2)
+    (run_refused c.args.batch.now c.args.draws.now c.args.payoff c.requires.laid c.requires.admitted _
+    c.requires.rows _ c.in_err-walked.ensures)
 
 pub returns : goal.returns
 returns c =
-    batch_priced c.args.batch c.args.draws.now c.args.payoff c.requires.laid
-    c.requires.admitted _ c.requires.rows c.run_paths-ran.ensures c.priced_after.ensures
+    run_priced c.args.batch.now c.args.draws.now c.args.payoff c.requires.laid c.requires.admitted _
+    c.requires.rows _ c.in_ok-walked.ensures c.priced_from.ensures

@@ -1,13 +1,7 @@
 -- `column_sum` meets its contract. Assumes nothing.
 use mathlib.Core.Path.{◌≡◌}
-use Prim.Native.Nat.{◌-◌, ◌≤◌}
 use Rattle.exponential.specs.Norm.{column_sum}
 use Rattle.exponential.proofs.norm.column_sum.Given as goal
 
 abbrev pub invariant-loop-i : goal.invariant-loop-i
-invariant-loop-i l =
-    (l.i ≤ l.dim) × (l.sum ≡ column_sum l.dim l.m l.column l.i)
-
-abbrev pub decreases-loop-i : goal.decreases-loop-i
-decreases-loop-i l =
-    l.dim - l.i
+invariant-loop-i l = l.sum ≡ column_sum l.dim l.m l.column l.i

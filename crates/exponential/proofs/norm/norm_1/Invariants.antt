@@ -1,13 +1,7 @@
 -- `norm_1` meets its contract. Assumes nothing.
 use mathlib.Core.Path.{◌≡◌}
-use Prim.Native.Nat.{◌≤◌, ◌-◌}
 use Rattle.exponential.specs.Norm.{largest_sum}
 use Rattle.exponential.proofs.norm.norm_1.Given as goal
 
 abbrev pub invariant-loop-j : goal.invariant-loop-j
-invariant-loop-j l =
-    (l.j ≤ l.dim) × (l.norm ≡ largest_sum l.dim l.m l.j)
-
-abbrev pub decreases-loop-j : goal.decreases-loop-j
-decreases-loop-j l =
-    l.dim - l.j
+invariant-loop-j l = l.norm ≡ largest_sum l.dim l.m l.j

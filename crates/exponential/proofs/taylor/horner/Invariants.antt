@@ -1,14 +1,8 @@
 -- `horner` meets its contract. Assumes nothing.
 use mathlib.Core.Path.{◌≡◌}
-use Prim.Native.Nat.{◌≤◌}
-use lib.ListN.{length}
-use Rattle.exponential.proofs.Series.{Degree}
+use Prim.Native.Nat.{◌-◌}
+use Rattle.exponential.specs.Exponential.{horner}
 use Rattle.exponential.proofs.taylor.horner.Given as goal
 
 abbrev pub invariant-loop-degree : goal.invariant-loop-degree
-invariant-loop-degree l =
-    (l.degree ≤ 18) × (length l.work ≡ length l.initial.work) × Degree l.dim l.initial.work l.work l.degree
-
-abbrev pub decreases-loop-degree : goal.decreases-loop-degree
-decreases-loop-degree l =
-    l.degree
+invariant-loop-degree l = l.value ≡ horner l.dim l.argument (18 - l.degree)

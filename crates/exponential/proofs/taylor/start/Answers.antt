@@ -1,12 +1,18 @@
--- `start` meets its contract. Assumes nothing.
-use mathlib.Core.Path.{◌∙◌}
-use Rattle.matrix.proofs.Workspaces.{long_put}
-use Rattle.exponential.proofs.Steps.{started}
+use mathlib.Core.Path.{ap, ◌∙◌}
+use Prim.Native.Nat.{ℕ}
+use lib.ListN.{replicate}
+use lib.Ieee.{of_bits}
+use Rattle.numeric.specs.Double.{plus_zero}
+use Rattle.matrix.specs.Matrix.{plus_identity}
+use Rattle.matrix.proofs.Diagonal.{identity_is}
 use Rattle.exponential.proofs.taylor.start.Goals as goal
 
-pub returns : goal.returns
-returns c =
-    started _ _ _ c.scale.new.m c.move_matrix.new.work c.clear.new.m c.add_diagonal.new.m c.requires.1
-    (c.move_matrix.auto.work
-    ∙ long_put _ c.scale.new.m c.args.work.now c.requires.1 c.scale.auto.m)
-    c.scale.ensures c.move_matrix.ensures c.clear.ensures c.add_diagonal.ensures
+pub returns-clause-value : goal.returns-clause-value
+unfolding of_bits
+returns-clause-value c =
+    let n = c.args.dim in
+    let long = c.scale.auto.m ∙ c.requires.0.1 in
+    c.add_diagonal.ensures
+    ∙ ap (plus_identity n)
+    (c.fill.ensures.after (λ y e. e) ∙ ap (λ (k : ℕ). replicate k plus_zero) long)
+    ∙ identity_is n

@@ -1,5 +1,5 @@
 -- `lanes::rows::move_row` meets its contract. Assumes nothing.
-use Prim.Native.Nat.{ℕ, ◌+◌, ◌-◌, ◌≤◌, ◌<◌}
+use Prim.Native.Nat.{ℕ, ◌+◌, ◌≤◌, ◌<◌}
 use mathlib.Core.Path.{◌≡◌}
 use mathlib.Core.Logic.{◌⊎◌}
 use mathlib.Core.List.{List}
@@ -10,14 +10,9 @@ use Rattle.lanes.proofs.rows.move_row.Given as goal
 
 -- the first l factors of the row are moved
 pub record Row (forcing : List Float) (divisor : Float) (at l : ℕ) (before after : List Float) : Type 0 where
-  pub long : length after ≡ length before
   pub new : (j : ℕ) → j < l → get_or after (at + j) nan ≡ over (plus (get_or before (at + j) nan) (get_or forcing j nan)) divisor
   pub kept : (x : ℕ) → (x < at) ⊎ (at + l ≤ x) → get_or after x nan ≡ get_or before x nan
 
 abbrev pub invariant-loop-l : goal.invariant-loop-l
 invariant-loop-l l =
-    (l.l ≤ 4) × Row l.forcing l.divisor l.at l.l l.initial.factors l.factors
-
-abbrev pub decreases-loop-l : goal.decreases-loop-l
-decreases-loop-l l =
-    4 - l.l
+    (length l.factors ≡ 40) × Row l.forcing l.divisor l.at l.l l.initial.factors l.factors

@@ -1,12 +1,7 @@
 -- `lanes::scheme::move_factors` meets its contract. Assumes nothing.
-use Prim.Native.Nat.{◌-◌, ◌≤◌}
 use Rattle.lanes.proofs.Moving.{Going}
 use Rattle.lanes.proofs.scheme.move_factors.Given as goal
 
 abbrev pub invariant-loop-i : goal.invariant-loop-i
 invariant-loop-i l =
-    (l.i ≤ l.n) × Going l.i l.forcing l.divisors l.weights l.initial.factors l.factors l.z
-
-abbrev pub decreases-loop-i : goal.decreases-loop-i
-decreases-loop-i l =
-    l.n - l.i
+    Going l.i l.forcing l.divisors l.weights l.initial.factors l.factors l.z

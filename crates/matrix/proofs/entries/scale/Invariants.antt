@@ -1,16 +1,14 @@
--- `scale` meets its contract: a pass whose values are the entries times the factor.
+-- `scale` meets its contract: the entries before the index are those times the factor.
 -- Assumes nothing.
-use Prim.Native.Nat.{◌≤◌, ◌-◌}
-use lib.ListN.{length, get_or}
+use mathlib.Core.Path.{◌≡◌}
+use Prim.Native.Nat.{ℕ, ◌≤◌, ◌<◌}
+use lib.ListN.{get_or}
 use lib.Ieee.{nan}
-use Rattle.matrix.proofs.Stores.{Stored}
 use Rattle.numeric.specs.Double.{times}
 use Rattle.matrix.proofs.entries.scale.Given as goal
 
-abbrev pub invariant-loop-k : goal.invariant-loop-k
-invariant-loop-k l =
-    (l.k ≤ length l.initial.m) × Stored 0 (λ j. times (get_or l.initial.m j nan) l.factor) l.initial.m l.m l.k
-
-abbrev pub decreases-loop-k : goal.decreases-loop-k
-decreases-loop-k l =
-    length l.initial.m - l.k
+abbrev pub invariant-loop-x : goal.invariant-loop-x
+invariant-loop-x l = record {
+  done : (k : ℕ) → k < l.x-index → get_or l.m k nan ≡ times (get_or l.initial.m k nan) l.factor;
+  rest : (k : ℕ) → l.x-index ≤ k → get_or l.m k nan ≡ get_or l.initial.m k nan;
+}

@@ -1,9 +1,14 @@
--- `multiply` meets its contract. Assumes nothing.
-use Rattle.matrix.proofs.Workspaces.{moved_back}
+use Rattle.matrix.proofs.Rows.{rows_none, rows_more, rows_all}
 use Rattle.matrix.proofs.product.multiply.Goals as goal
+
+pub loop-i-init : goal.loop-i-init
+loop-i-init c = rows_none _ _ _ _ c.requires.2.1
+
+pub loop-i-preserved : goal.loop-i-preserved
+loop-i-preserved c =
+    rows_more _ _ _ _ c.requires.2.1 _ _ c.loop-i.invariant c.loop-i-test.true c.fill_row.new.row
+    c.fill_row.auto.row c.fill_row.ensures.column
 
 pub returns : goal.returns
 returns c =
-    moved_back _ c.args.left _ c.multiply_into.new.work _ c.requires.2
-    c.multiply_into.auto.work c.move_matrix.auto.work
-    c.multiply_into.ensures c.move_matrix.ensures
+    rows_all _ _ _ _ c.requires.2.1 _ _ c.loop-i.invariant c.loop-i-test.false

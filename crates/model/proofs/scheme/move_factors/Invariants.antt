@@ -1,5 +1,5 @@
 -- `model::scheme::move_factors` meets its contract. Assumes nothing.
-use Prim.Native.Nat.{ℕ, ◌≤◌, ◌<◌, ◌-◌}
+use Prim.Native.Nat.{ℕ, ◌<◌}
 use mathlib.Core.Path.{◌≡◌}
 use lib.ListN.{length, get_or}
 use lib.Ieee.{nan}
@@ -8,8 +8,4 @@ use Rattle.model.proofs.scheme.move_factors.Given as goal
 
 abbrev pub invariant-loop-i : goal.invariant-loop-i
 invariant-loop-i l =
-    (l.i ≤ l.n) × (l.n ≤ 10) × (length l.next ≡ 10) × ((j : ℕ) → j < l.i → get_or l.next j nan ≡ over (plus (get_or l.factors j nan) l.forcing) (get_or l.divisors j nan))
-
-abbrev pub decreases-loop-i : goal.decreases-loop-i
-decreases-loop-i l =
-    l.n - l.i
+    (length l.next ≡ 10) × ((j : ℕ) → j < l.i → get_or l.next j nan ≡ over (plus (get_or l.factors j nan) l.forcing) (get_or l.divisors j nan))

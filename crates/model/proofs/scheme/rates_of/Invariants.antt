@@ -1,5 +1,5 @@
 -- `model::scheme::rates_of` meets its contract. Assumes nothing.
-use Prim.Native.Nat.{ℕ, ◌≤◌, ◌<◌, ◌-◌}
+use Prim.Native.Nat.{ℕ, ◌<◌}
 use mathlib.Core.Path.{◌≡◌}
 use lib.ListN.{length, get_or}
 use lib.Ieee.{nan}
@@ -8,8 +8,4 @@ use Rattle.model.proofs.scheme.rates_of.Given as goal
 
 abbrev pub invariant-loop-i : goal.invariant-loop-i
 invariant-loop-i l =
-    (l.i ≤ l.n) × (l.n ≤ 10) × (l.n ≡ l.k.n) × (length l.divisors ≡ 10) × ((j : ℕ) → j < l.i → get_or l.divisors j nan ≡ plus one (times (get_or l.k.discounts j nan) l.dt))
-
-abbrev pub decreases-loop-i : goal.decreases-loop-i
-decreases-loop-i l =
-    l.n - l.i
+    (length l.divisors ≡ 10) × ((j : ℕ) → j < l.i → get_or l.divisors j nan ≡ plus one (times (get_or l.k-inside.discounts j nan) l.dt))

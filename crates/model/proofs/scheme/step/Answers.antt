@@ -5,10 +5,9 @@ use Rattle.model.proofs.scheme.step.Goals as goal
 
 pub returns : goal.returns
 returns c =
-    let least = c.before in
-    let moved = least.before.before.before in
-    let rooted = moved.before.before.before.before.before.before.before.before.before in
-    let known = rooted.before.before in
+    let a = c.args in
+    let own = rw (← c.k.view_is) at c.requires in
     c.read.ensures
-    ∙ step_take known.args.k known.args.p known.args.s known.args.g known.args.rates _ known.requires.n_bound
-    known.requires.rates_of _ _ rooted.sqrt.ensures.root least.min.ensures moved.move_factors-next.ensures
+    ∙ rw (← c.k.view_is)
+    (step_take _ a.p a.s a.g a.rates _ c.k.invariant own _ _ c.sqrt.ensures.root
+    c.min.ensures c.move_factors-next.ensures)

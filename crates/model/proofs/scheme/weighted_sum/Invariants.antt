@@ -1,13 +1,8 @@
 -- `model::scheme::weighted_sum` meets its contract. Assumes nothing.
-use Prim.Native.Nat.{◌≤◌, ◌-◌}
 use mathlib.Core.Path.{◌≡◌}
 use Rattle.model.specs.Step.{weighted_sum}
 use Rattle.model.proofs.scheme.weighted_sum.Given as goal
 
 abbrev pub invariant-loop-i : goal.invariant-loop-i
 invariant-loop-i l =
-    (l.i ≤ l.n) × (l.sum ≡ weighted_sum l.weights l.factors l.i)
-
-abbrev pub decreases-loop-i : goal.decreases-loop-i
-decreases-loop-i l =
-    l.n - l.i
+    l.sum ≡ weighted_sum l.weights l.factors l.i

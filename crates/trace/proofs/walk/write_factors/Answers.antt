@@ -1,58 +1,24 @@
-use mathlib.Core.Path.{◌≡◌, refl}
+-- `trace::walk::write_factors` meets its contract: a part of the table is copied. Assumes nothing.
+use mathlib.Core.Path.{ap, ◌∙◌}
+use Prim.Native.Nat.{◌+◌, ◌*◌, ◌-◌}
 use native.Mathlib.Omega.{arith}
-use lib.ListN.{length-set}
-use Rattle.trace.proofs.Points.{written_none, written_more}
+use lib.Ieee.{nan}
+use lib.ListN.{get_or}
+use lib.Seq.{get_or-take}
+use Rattle.numeric.proofs.Parts.{put_before, put_in, put_after}
 use Rattle.trace.proofs.walk.write_factors.Goals as goal
-
-pub loop-i-init : goal.loop-i-init
-loop-i-init c =
-    (omega arith, refl, written_none _ _ _)
-
-pub offset_bounds-values-i : goal.offset_bounds-values-i
-offset_bounds-values-i c =
-    omega arith
-
-pub bounds-values-i : goal.bounds-values-i
-bounds-values-i c =
-    omega arith
-
-pub overflow_mul-factors : goal.overflow_mul-factors
-overflow_mul-factors c =
-    omega arith
-
-pub overflow_add-factors : goal.overflow_add-factors
-overflow_add-factors c =
-    omega arith
-
-pub offset_bounds-factors-point : goal.offset_bounds-factors-point
-offset_bounds-factors-point c =
-    omega arith
-
-pub bounds-factors-point : goal.bounds-factors-point
-bounds-factors-point c =
-    omega arith
-
-pub overflow_add-i : goal.overflow_add-i
-overflow_add-i c =
-    omega arith
-
-pub loop-i-smaller : goal.loop-i-smaller
-loop-i-smaller c =
-    omega arith
-
-pub loop-i-preserved : goal.loop-i-preserved
-loop-i-preserved c =
-    let now = c.loop-i in (
-      omega arith,
-      simp length-set now.invariant.1,
-      written_more _ _ _ now.factors now.i now.invariant.2 (omega arith),
-    )
-
-pub shape_of-factors : goal.shape_of-factors
-shape_of-factors c =
-    c.loop-i.invariant.1
 
 pub returns : goal.returns
 returns c =
-    let e : c.loop-i.i ≡ c.args.n = omega arith in
-    rw e at c.loop-i.invariant.2
+    let n = c.args.n in
+    let at = c.args.point * n in
+    let lent = c.args.factors.now in
+    let new = c.copy_from_slice.new.self in
+    record {
+      front = put_before nan lent new at (at + n - at) (omega arith);
+      new = λ i h.
+          put_in nan lent new at (at + n - at) (omega arith) i (omega arith)
+          ∙ ap (λ xs. get_or xs i nan) c.copy_from_slice.ensures.after
+          ∙ get_or-take n c.args.values i nan h;
+      back = put_after nan lent new at (at + n) (omega arith) (omega arith) (omega arith);
+    }

@@ -1,9 +1,0 @@
--- `Moments::new` meets its contract. Assumes nothing.
-use lib.Ieee.{of_bits}
-use mathlib.Core.Path.{refl}
-use Rattle.estimates.proofs.Moments.new.Goals as goal
-
-pub returns : goal.returns
-unfolding of_bits
-returns c =
-    refl
