@@ -11,7 +11,7 @@ use lib.Ieee.{Float, nan}
 use lib.ListN.{length}
 use Rattle.numeric.proofs.Tables.{length_tabulate, get_d_tabulate}
 use Rattle.refusal.specs.declared.Quantity.{Quantity}
-use Rattle.std.specs.Prelude.{Result, Ok, Err}
+use Rattle.std.specs.Prelude.{Ok, Err}
 use Rattle.model.specs.Step.{finiteness}
 use Rattle.model.specs.TimeGrid.{last_step, contains, dt_at, sqrt_dt_at}
 use Rattle.model.specs.Inner.Laid.{Laid}

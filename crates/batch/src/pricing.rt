@@ -19,13 +19,10 @@ use walks::{Batch, Observed};
 fn squared_questions(squared: f64, path: u64) -> Outcome
     ensures { result ≡ first_no (questions_of_squared squared path) }
 {
-    match vix::check_squared(squared) {
-        Ok(()) => Ok(()),
-        Err(fault) => Err(Refusal::Squared {
-            fault,
-            path: Some(path),
-        }),
-    }
+    vix::check_squared(squared).map_err(|fault| Refusal::Squared {
+        fault,
+        path: Some(path),
+    })
 }
 
 // 23 and 24 of every path, in turn.
@@ -84,9 +81,10 @@ fn priced_from(walked: Walked, batch: &Batch, observations: &[f64]) -> Priced
     let observed = batch.observation.observed();
     let count = batch.simulation.grid.count;
     let steps = walked.steps;
-    if let Err(refusal) = check_last(observed, observations, batch.paths, count) {
-        return Err(Refused { refusal, steps });
-    }
+    check_last(observed, observations, batch.paths, count).map_err(|refusal| Refused {
+        refusal,
+        steps,
+    })?;
     reported(walked, batch.paths as u64)
 }
 

@@ -48,7 +48,8 @@ pub fn down_and_out_payoff(strike: Decimal, barrier: Decimal) -> Payoff
     }
 }
 
-// Question 19.
+// Question 19. (Mirrored and paths stay two arguments: an order and a batch have both, and a third
+// struct is no plainer.)
 #[tactic(auto, unfolding(crate::specs::Questions::paths_pass))]
 fn paths_pass(mirrored: bool, paths: usize) -> bool
     ensures { result ≡ paths_pass mirrored paths }

@@ -1,5 +1,6 @@
 // The places of the moment system's state: n means, the pairs (i, j) with i ≤ j row by row, the
-// integral and the constant.
+// integral and the constant. n is a plain number here: with a type around it each clause would name
+// its field.
 ghost use Rattle.std.specs.Prelude.{◌≡◌, ◌≤◌, ◌<◌};
 ghost use Rattle.generator_rows.specs.State.{pairs_before, pair_at, dimension};
 

@@ -1,4 +1,5 @@
-// A row of a table of factors: one factor, in every lane.
+// A row of a table of factors: one factor, in every lane. That a row begins at 36 at most is a fact
+// of a plain number, and is asked in each clause.
 ghost use Rattle.std.specs.Prelude.{◌≡◌, ℕ, ◌+◌, ◌≤◌, ◌<◌, get_or, length};
 ghost use Rattle.std.specs.Float.{nan};
 ghost use Rattle.numeric.specs.Double.{plus, times};

@@ -55,7 +55,9 @@ fn stopped(path: usize, step: usize, quantity: Quantity, steps: u64) -> Refused
 // Every path in turn, step by step, up to the first step that is not finite. `observations` has a
 // row a path and a column a segment. Four paths at a time are walked side by side where that is
 // sure to give what the plain loop gives; a group of which that cannot be said goes through the
-// plain loop. What a path shows the payoff is added as the path ends.
+// plain loop. What a path shows the payoff is added as the path ends. Batch, payoff, draws and
+// observations stay four arguments: of a struct that holds a `&mut` each function would have to say
+// that it stays the same reference.
 pub fn run_paths(
     batch: &Batch,
     payoff: Payoff,
@@ -78,7 +80,7 @@ pub fn run_paths(
         total: grid.total,
     };
     let mut walked = Walked::new();
-    let mut failed = None;
+    let mut ended = Ok(());
     let mut path = 0;
     let mut next_group = 0;
     // No `for`: a turn takes one path or four. The labelled break leaves both loops.
@@ -100,7 +102,7 @@ pub fn run_paths(
             let step = at + 1;
             walked.steps += 1;
             if let Err(quantity) = scheme::ensure_finite(s) {
-                failed = Some(stopped(path, step, quantity, walked.steps));
+                ended = Err(stopped(path, step, quantity, walked.steps));
                 break 'paths;
             }
             if step == grid.last[segment] {
@@ -114,8 +116,6 @@ pub fn run_paths(
         walked = walked.with_ended(payoff, observed, row, count, &lowest[..]);
         path += 1;
     }
-    match failed {
-        Some(refused) => Err(refused),
-        None => Ok(walked),
-    }
+    ended?;
+    Ok(walked)
 }

@@ -14,7 +14,8 @@ use model::Model;
 use refusal::{Outcome, Refusal};
 use vix::{Evaluation, Vix};
 
-// The factors at which the VIX is wanted, in the first `count` places.
+// The factors at which the VIX is wanted, in the first `count` places. A C struct: an array and how
+// much of it is in use.
 #[repr(C)]
 #[derive(Clone, Copy)]
 pub struct Factors {

@@ -5,7 +5,8 @@ use native.Mathlib.Omega.{arith}
 use lib.ListN.{length}
 use lib.Ieee.{Float}
 use lib.Seq.{get_or-take}
-use Rattle.std.specs.Prelude.{Option, Some, None, Result, Ok, Err}
+use Rattle.std.specs.Prelude.{Result, Ok, Err}
+use Rattle.std.proofs.lemmas.Result.{err_from_is_err_and}
 use Rattle.model.proofs.Containment.{laid_in_use, reached_open}
 use Rattle.walks.specs.Batch.{Batch}
 use Rattle.walks.proofs.Handed.{finite_in_use, observed_in_use, step_in_use}
@@ -18,10 +19,11 @@ use Rattle.paths.proofs.Turns.{Outer, small, turn_first, next_state, turn_on, tu
 use Rattle.paths.proofs.Turns.{path_first, path_next, run_ends, entries_end, run_done, entries_done}
 use Rattle.paths.proofs.Groups.{path_four}
 use Rattle.paths.proofs.Whole.{whole}
-use Rattle.paths.proofs.loops.run_paths.Goals.{then-step-grid, else-step-grid, else-paths-test}
-use Rattle.paths.proofs.loops.run_paths.Goals.{then-paths-test+then-loop-at-test+in-Err}
+use Rattle.paths.proofs.loops.run_paths.Goals.{then-step-grid, else-step-grid}
 use Rattle.paths.proofs.loops.run_paths.Goals.{then-next_group-path+then-path-batch+in_default}
 use Rattle.paths.proofs.loops.run_paths.Goals.{else-next_group-path}
+use Rattle.paths.proofs.loops.run_paths.Goals.{else-paths-test}
+use Rattle.paths.proofs.loops.run_paths.Goals.{then-paths-test+then-loop-at-test+in-Err}
 use Rattle.paths.proofs.loops.run_paths.Goals as goal
 
 -- the outer loop, over the table as a group that is not sure leaves it
@@ -34,13 +36,13 @@ ran : {b : Batch} {payoff : Payoff} {lent after : List Float} {r : Result Walked
     ≡ run_answer b payoff → after ≡ table_after b lent → BatchRun b payoff lent after r
 ran a t = record { answer = a; table = t }
 
--- a run has failed or not
-not_both : (failed : Option Refused) (r : Refused) → failed ≡ None → failed ≡ Some r → ⊥
-not_both failed r e f = let z : ◌≡◌ {A = ℕ} 0 1 = cc in omega arith
+-- the paths ended well or not
+not_both : (ended : Result Unit Refused) (r : Refused) → ended ≡ Ok tt → ended ≡ Err r → ⊥
+not_both ended r e f = let z : ◌≡◌ {A = ℕ} 0 1 = cc in omega arith
 
-by_failure : (failed : Option Refused) (r r' : Refused) → failed ≡ Some r → failed ≡ Some r'
+by_failure : (ended : Result Unit Refused) (r r' : Refused) → ended ≡ Err r → ended ≡ Err r'
     → ◌≡◌ {A = Result Walked Refused} (Err r) (Err r')
-by_failure failed r r' e f = cc
+by_failure ended r r' e f = let same : r ≡ r' = cc in ap Err same
 
 -- ---- before the loops
 pub paths-init : goal.paths-init
@@ -131,15 +133,17 @@ paths-preserved c =
 
 -- ---- the run ends
 -- at a step that is not finite
-pub returns-in-Some-failed : goal.returns-in-Some-failed
-returns-in-Some-failed c =
+pub returns-in_err-ended : goal.returns-in_err-ended
+returns-in_err-ended c =
+    let p = err_from_is_err_and c.from_residual.result c.from_residual.ensures.1 in
     let batch = c.args.batch.now in
     let grid = batch.simulation.grid in
     let n = batch.simulation.kernel.n in
     let laid = laid_in_use grid c.requires.laid in
-    elim c.paths-test.branch [
+    rw (p.1, p.2)
+    (elim c.paths-test.branch [
       | else-paths-test w ↦
-          absurd (not_both _ _ (w.failed-is ∙ c.paths.invariant.1) c.in-Some-failed.is)
+          absurd (not_both _ _ (w.ended-is ∙ c.paths.invariant.1) c.in_err-ended.was)
       | then-paths-test+then-loop-at-test+in-Err w ↦
           let same : w.if-next_group-path.observations ≡ c.paths.observations =
           elim w.if-next_group-path.branch [
@@ -157,17 +161,17 @@ returns-in-Some-failed c =
           let fails = finite_in_use n w.step-s.result ∙ sym w.ensure_finite.ensures ∙ w.in-Err.is in
           let long = ap length w.observations-is ∙ inner.long ∙ sym c.requires.rows in
           ran
-          (by_failure _ _ _ c.in-Some-failed.is w.failed-is ∙ ap Err w.stopped.ensures
+          (by_failure _ _ _ c.in_err-ended.was w.ended-is ∙ ap Err w.stopped.ensures
           ∙ sym (run_ends laid before w.paths-test.true inner w.loop-at-test.true state fails))
           (whole _ _ _ laid.some c.requires.rows long
           (λ q j l m. rw w.observations-is
           (entries_end laid before w.paths-test.true inner w.loop-at-test.true state fails q j l
           m)))
-    ]
+    ])
 
 -- after the last path
-pub returns-in-None : goal.returns-in-None
-returns-in-None c =
+pub returns : goal.returns
+returns c =
     let laid = laid_in_use c.args.batch.now.simulation.grid c.requires.laid in
     let before = c.paths.invariant.0 in
     elim c.paths-test.branch [
@@ -176,5 +180,5 @@ returns-in-None c =
           ran (ap Ok w.walked-is ∙ sym (run_done laid before w.paths-test.false))
           (whole _ _ _ laid.some c.requires.rows long
           (λ q j l m. rw w.observations-is (entries_done laid before w.paths-test.false q j l m)))
-      | then-paths-test+then-loop-at-test+in-Err w ↦ absurd (not_both _ _ c.in-None.is w.failed-is)
+      | then-paths-test+then-loop-at-test+in-Err w ↦ absurd (not_both _ _ c.in_ok-ended.was w.ended-is)
     ]

@@ -5,7 +5,7 @@ use Prim.Native.Nat.{◌-◌}
 use mathlib.Core.Path.{◌≡◌}
 use lib.ListN.{get_or}
 use lib.Ieee.{nan}
-use Rattle.std.specs.Prelude.{None}
+use Rattle.std.specs.Prelude.{Ok}
 use Rattle.model.specs.Inner.Rates.{RatesOf}
 use Rattle.model.specs.Inner.InUse.{state_in_use}
 use Rattle.walks.specs.Inner.Handed.{batch_of}
@@ -18,12 +18,12 @@ invariant-loop-at l =
     l.walked l.segment l.at (state_in_use l.batch.simulation.kernel.n l.s)
     × RatesOf l.batch.simulation.kernel (get_or l.batch.simulation.grid.dt l.segment nan)
     (get_or l.batch.simulation.grid.sqrt_dt l.segment nan) l.rates
-    × (l.failed ≡ None)
+    × (l.ended ≡ Ok tt)
 
 abbrev pub invariant-paths : goal.invariant-paths
 invariant-paths l =
     Outer (batch_of l.batch l.draws) l.payoff l.initial.observations l.observations l.path l.walked
-    × (l.failed ≡ None)
+    × (l.ended ≡ Ok tt)
 
 abbrev pub decreases-paths : goal.decreases-paths
 decreases-paths l =
