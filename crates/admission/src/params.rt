@@ -30,7 +30,8 @@ fn ranges(n: usize, p: Model) -> Outcome
     refusal::ensure(p.factor_count == n, Refusal::FactorCount)
 }
 
-// Question 1 of each of n factors.
+// Question 1 of each of n factors. (No slice: the questions are about the places of a table of ten,
+// and each caller would have to bring them over from those of a prefix.)
 pub fn factor_scales(n: usize, factors: [Decimal; 10]) -> Outcome
     requires { n ≤ 10 }
     ensures { result ≡ first_no (each (factor_questions factors) n) }
@@ -55,13 +56,11 @@ fn parameter_scales(p: Model) -> Outcome
 
 // Question 1 of the parameters, the factors and spot.
 #[tactic(auto, using(refusal::proofs::Laws::append), unfolding(refusal::specs::Questions::first_no, crate::specs::Questions::scale_questions))]
-fn scales(n: usize, p: Model) -> Outcome
-    requires { n ≤ 10 }
-    ensures { result ≡ first_no (scale_questions n p) }
+fn scales(k: Kernel, p: Model) -> Outcome
+    ensures { result ≡ first_no (scale_questions k.n p) }
 {
     parameter_scales(p)?;
-    let factors = p.factors;
-    factor_scales(n, factors)?;
+    factor_scales(k.n, p.factors)?;
     refusal::ensure(p.spot.scale_fits(), Refusal::Scale)
 }
 
@@ -77,7 +76,8 @@ pub fn params_of(p: Model) -> Params
     }
 }
 
-// The first n factors as converted.
+// The first n factors as converted. (No slice: what is returned has ten places, so that a slice too
+// would be asked to have no more than ten.)
 pub fn factors_of(n: usize, factors: [Decimal; 10]) -> [f64; 10]
     requires { n ≤ 10 }
     ensures { take n result ≡ factors_of n factors }
@@ -96,7 +96,7 @@ pub fn try_new(k: Kernel, p: Model) -> Result<Initial, Refusal>
 {
     let n = k.n;
     ranges(n, p)?;
-    scales(n, p)?;
+    scales(k, p)?;
     let params = params_of(p);
     let spot = p.spot.value();
     let given = p.factors;

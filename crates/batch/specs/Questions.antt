@@ -28,8 +28,8 @@ style_of true = Put
 style_of false = Call
 
 -- Rule 10.5: a call or a put at its strike as converted
-abbrev pub vanilla_at : Bool → Decimal → Payoff
-vanilla_at put strike = Vanilla (style_of put) (value strike)
+abbrev pub vanilla_at : Style → Decimal → Payoff
+vanilla_at style strike = Vanilla style (value strike)
 
 -- Rule 10.5: a put at its strike that vanishes at its barrier, both as converted
 abbrev pub down_and_out_at : Decimal → Decimal → Payoff

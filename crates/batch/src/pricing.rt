@@ -25,7 +25,7 @@ fn squared_questions(squared: f64, path: u64) -> Outcome
     })
 }
 
-// 23 and 24 of every path, in turn.
+// 23 and 24 of every path, in turn. (Observations and count stay two arguments, as in tally.)
 fn check_squared(observations: &[f64], paths: usize, count: usize) -> Outcome
     requires { (1 ≤ count) × (length observations.now ≡ paths * count) }
     ensures { result ≡ first_no
@@ -51,7 +51,8 @@ fn check_last(observed: Observed, observations: &[f64], paths: usize, count: usi
     }
 }
 
-// The estimates, or question 25.
+// The estimates, or question 25. (The four doubles tell which is not finite; that it is an error is
+// said here, where alone it is one.)
 #[tactic(auto, unfolding(crate::specs::Inner::Handed::reported_of))]
 fn reported(walked: Walked, paths: u64) -> Priced
     ensures { result ≡ reported_of walked paths }
@@ -89,7 +90,7 @@ fn priced_from(walked: Walked, batch: &Batch, observations: &[f64]) -> Priced
 }
 
 // The paths of a batch whose questions are passed, and what is made of them: 22 where a step is not
-// finite.
+// finite. (The four arguments stay four, as in `run_paths`.)
 fn price_admitted(batch: &Batch, payoff: Payoff, draws: &[f64], observations: &mut [f64]) -> Priced
     requires { Prepared batch.now draws.now observations.old }
     ensures { BatchPriced (batch_of batch.now draws.now) payoff

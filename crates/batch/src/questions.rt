@@ -5,7 +5,7 @@ ghost use Rattle.refusal.specs.Questions.{first_no};
 ghost use Rattle.model.specs.Inner.Laid.{Laid};
 ghost use Rattle.walks.specs.Batch.{draws_needed};
 ghost use Rattle.batch.specs.Questions.{strike_questions, barrier_questions};
-ghost use Rattle.batch.specs.Questions.{vanilla_at, down_and_out_at};
+ghost use Rattle.batch.specs.Questions.{style_of, vanilla_at, down_and_out_at};
 ghost use Rattle.batch.specs.Questions.{paths_pass, path_questions, batch_questions};
 
 use decimal::Decimal;
@@ -30,11 +30,16 @@ pub fn barrier_questions(barrier: Decimal) -> Outcome
     refusal::ensure(barrier.scale_fits(), Refusal::Scale)
 }
 
-// `put` is a flag, as C hands it.
-pub fn vanilla_payoff(put: bool, strike: Decimal) -> Payoff
-    ensures { result ≡ vanilla_at put strike }
+// C hands a style as a flag: one that is set says put.
+pub fn style_of(put: bool) -> Style
+    ensures { result ≡ style_of put }
 {
-    let style = if put { Style::Put } else { Style::Call };
+    if put { Style::Put } else { Style::Call }
+}
+
+pub fn vanilla_payoff(style: Style, strike: Decimal) -> Payoff
+    ensures { result ≡ vanilla_at style strike }
+{
     let strike = strike.value();
     Payoff::Vanilla { style, strike }
 }
@@ -48,8 +53,8 @@ pub fn down_and_out_payoff(strike: Decimal, barrier: Decimal) -> Payoff
     }
 }
 
-// Question 19. (Mirrored and paths stay two arguments: an order and a batch have both, and a third
-// struct is no plainer.)
+// Question 19. (Mirrored and paths stay two arguments, here and below: a whole batch would ask that
+// its kernel has ten factors at most, which no question needs.)
 #[tactic(auto, unfolding(crate::specs::Questions::paths_pass))]
 fn paths_pass(mirrored: bool, paths: usize) -> bool
     ensures { result ≡ paths_pass mirrored paths }

@@ -84,7 +84,8 @@ impl Decimal {
         self.nearest_double()
     }
 
-    // Its double, and none where its scale is too large.
+    // Its double, and none where its scale is too large. (No `TryFrom`: the name is the Rust's, and
+    // what there is no double of has no other reason.)
     #[tactic(auto, using(crate::proofs::Value::conversion_laws))]
     pub fn to_f64(self) -> Option<f64>
         ensures answer { result ≡ convert self }

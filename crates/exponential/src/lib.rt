@@ -1,4 +1,6 @@
-// The exponential of a square matrix of doubles, by scaling and squaring.
+// The exponential of a square matrix of doubles, by scaling and squaring. A matrix is its dimension
+// and a slice: a struct that holds the lent slice would have to promise, of each function, that the
+// dimension stays.
 #![tactic(auto)]
 
 ghost use Rattle.std.specs.Prelude.{◌≡◌};

@@ -20,20 +20,22 @@ pub struct Exponentiation {
     pub squarings: u64,
 }
 
-fn answer(exponentiated: Result<u32, Refusal>) -> Exponentiation
-    ensures { result ≡ answer_of exponentiated }
-{
-    match exponentiated {
-        Ok(squarings) => Exponentiation {
-            number: 0,
-            place: [0; 4],
-            squarings: squarings as u64,
-        },
-        Err(refusal) => Exponentiation {
-            number: refusal.number(),
-            place: refusal.place(),
-            squarings: 0,
-        },
+impl From<Result<u32, Refusal>> for Exponentiation {
+    ghost from_gives = { λ exponentiated r. r ≡ answer_of exponentiated };
+
+    fn from(exponentiated: Result<u32, Refusal>) -> Exponentiation {
+        match exponentiated {
+            Ok(squarings) => Exponentiation {
+                number: 0,
+                place: [0; 4],
+                squarings: squarings as u64,
+            },
+            Err(refusal) => Exponentiation {
+                number: refusal.number(),
+                place: refusal.place(),
+                squarings: 0,
+            },
+        }
     }
 }
 
@@ -55,7 +57,9 @@ fn size_questions(dim: usize, input: usize, output: usize, work: usize) -> Outco
     refusal::ensure(work == 5 * (dim * dim), Refusal::Workspace)
 }
 
-// The exponential of input in output, and the number of its squarings.
+// The exponential of input in output, and the number of its squarings. (Four arguments, here and
+// below: of a struct that holds a `&mut` each function would have to say that it stays the same
+// reference.)
 fn exponentiated(
     dim: usize,
     input: &[f64],
@@ -85,5 +89,5 @@ pub fn exponentiate(
         (matrix_inputs dim input.now output.old work.old)
         result output.new work.new }
 {
-    answer(exponentiated(dim, input, output, work))
+    Exponentiation::from(exponentiated(dim, input, output, work))
 }

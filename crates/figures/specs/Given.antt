@@ -8,6 +8,7 @@ use Rattle.model.specs.declared.Model.{Model}
 use Rattle.model.specs.declared.Schedule.{Schedule}
 use Rattle.model.specs.Kernel.{kernel_of}
 use Rattle.model.specs.Simulation.{Given, given}
+use Rattle.estimates.specs.declared.Style.TheVariants.{Call}
 use Rattle.vanilla.specs.declared.Terms.TheVariants.{Vanilla}
 use Rattle.vanilla.specs.Call.{VanillaInputs, vanilla_inputs}
 
@@ -69,5 +70,5 @@ given_of model schedule = given weights discounts model schedule
 abbrev pub call_at100 : Schedule → Bool → List Float → VanillaInputs
 call_at100 schedule mirrored draws =
     vanilla_inputs (given_of model schedule)
-    (record { terms = Vanilla false (decimal 100 0); mirrored = mirrored; paths = 2 })
+    (record { terms = Vanilla Call (decimal 100 0); mirrored = mirrored; paths = 2 })
     draws

@@ -3,7 +3,7 @@
 use crate::given::{batch, scaled, whole};
 use crate::report::{Figure, estimates, same};
 use decimal::Decimal;
-use vanilla::Terms;
+use vanilla::{Style, Terms};
 
 const P9: [f64; 2] = [0.5, -1.0];
 
@@ -23,7 +23,7 @@ fn at_barrier(barrier: Decimal) -> Terms {
 // The put without a barrier.
 fn plain() -> Terms {
     Terms::Vanilla {
-        put: true,
+        style: Style::Put,
         strike: whole(200),
     }
 }

@@ -40,7 +40,8 @@ pub(crate) fn same(values: &[f64], expected: &[f64]) -> bool {
     values.len() == expected.len() && pairs.all(|(x, y)| is_same(*x, *y))
 }
 
-// The four estimates of a batch, in the order in which they are reported.
+// The four estimates of a batch, in the order in which they are reported. (`replay` has the four
+// lines too: a library for them is no plainer.)
 pub(crate) fn estimates(answer: Estimate) -> [f64; 4] {
     [
         answer.price,

@@ -1,12 +1,12 @@
 // P9, P10 and the least number of paths: vanilla batches, a call at 100 over one step.
 use crate::given::{batch, whole};
 use crate::report::{Figure, estimates, same};
-use vanilla::{Estimate, Terms};
+use vanilla::{Estimate, Style, Terms};
 
 // A path for each observation, with these draws.
 fn call_at_100(draws: &[f64], observations: &mut [f64]) -> Estimate {
     let terms = Terms::Vanilla {
-        put: false,
+        style: Style::Call,
         strike: whole(100),
     };
     batch(1, terms, false, draws, observations)

@@ -26,7 +26,8 @@ struct Filling {
 }
 
 // Where a method needs n it binds the kernel first: its proof then opens the kernel alone, and not
-// the whole filling.
+// the whole filling. That the workspace has room is asked by each method: a struct that holds the
+// lent slice would have to promise of each that its length stays.
 impl Filling {
     ghost use Rattle.generator.specs.Inner.Filling.{mean_of, pair_of, HasRoom};
 
@@ -84,7 +85,7 @@ impl Filling {
 }
 
 // The whole generator: the rows of the means, of the pairs, of the integral, which is E[V], and of
-// the constant.
+// the constant. (Kernel and parameters stay two arguments, as in the definition.)
 pub fn fill(k: Kernel, p: Params, window: f64, work: &mut [f64])
     requires { dimension k.n * dimension k.n ≤ length work.old }
     ensures { take (dimension k.n * dimension k.n) work.new

@@ -1,5 +1,5 @@
 // The rows of the moment system's generator. Each lies in the first places of an array, as many as
-// the state has.
+// the state has: fixed memory, with no heap.
 #![tactic(auto)]
 
 ghost use Rattle.std.specs.Prelude.{◌≡◌, [], ◌∷◌, ℕ, ◌-◌, ◌≤◌, ◌<◌, length, get_or, take, set};

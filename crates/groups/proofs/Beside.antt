@@ -15,7 +15,7 @@ use Rattle.model.specs.Inner.InUse.{state_in_use}
 use Rattle.numeric.proofs.Tables.{take_is_tabulate}
 use Rattle.model.specs.TimeGrid.{last_step, dt_at, sqrt_dt_at}
 use Rattle.model.specs.Inner.Laid.{Laid}
-use Rattle.lanes.specs.Inner.Lanes.{lane_of, AllAt, Spread, FiniteLane}
+use Rattle.lanes.specs.Inner.Lanes.{factor_at, lane_of, AllAt, Spread, FiniteLane}
 use Rattle.model.specs.Walk.{state_after}
 use Rattle.model.proofs.First.{split}
 use Rattle.model.proofs.FiniteStates.{parts_finite}
@@ -30,14 +30,14 @@ RowsFilled b path segment rows = (l j : ℕ) → l < 4 → j < segment → get_o
 
 -- at the head of the loop: `at` steps of paths path + 1 to path + 4 are walked, and their rows are
 -- filled up to `segment`
-pub record Beside (b : Batch) (n path : ℕ) (segment at : ℕ) (s : Lanes) (factors : List Float) (rows : List Float) : Type 0 where
+pub record Beside (b : Batch) (n path : ℕ) (segment at : ℕ) (s : Lanes) (factors : List (List Float)) (rows : List Float) : Type 0 where
   pub most : at ≤ b.simulation.grid.total
   pub reached : Reached b.simulation.grid segment at
   pub state : (l : ℕ) → l < 4 → lane_of n s factors l ≡ state_after (walk_of b (suc (path + l))) at
   pub filled : RowsFilled b path segment rows
 
 -- the loop begins
-pub beside_first : (b : Batch) → Laid b.simulation.grid → (n path : ℕ) (s : Lanes) (factors : List Float) (rows : List Float) → ((l : ℕ) → l < 4 → lane_of n s factors l ≡ b.simulation.start) → Beside b n path 0 0 s factors rows
+pub beside_first : (b : Batch) → Laid b.simulation.grid → (n path : ℕ) (s : Lanes) (factors : List (List Float)) (rows : List Float) → ((l : ℕ) → l < 4 → lane_of n s factors l ≡ b.simulation.start) → Beside b n path 0 0 s factors rows
 unfolding state_after
 beside_first b ok n path s factors rows state =
     record {
@@ -47,8 +47,8 @@ beside_first b ok n path s factors rows state =
       filled = λ l j h k. absurd (omega arith);
     }
 
-module _ {b : Batch} (ok : Laid b.simulation.grid) {n path segment at : ℕ} {s : Lanes} {factors : List Float} {rows : List Float} (h : Beside b n path segment at s factors rows) where
-  module _ (k : at < b.simulation.grid.total) (s' : Lanes) (factors' : List Float)
+module _ {b : Batch} (ok : Laid b.simulation.grid) {n path segment at : ℕ} {s : Lanes} {factors : List (List Float)} {rows : List Float} (h : Beside b n path segment at s factors rows) where
+  module _ (k : at < b.simulation.grid.total) (s' : Lanes) (factors' : List (List Float))
       (e : (l : ℕ) → l < 4 → lane_of n s' factors' l ≡ step b.simulation.kernel b.simulation.params (lane_of n s factors l) (b.draw (suc (path + l)) (suc at)) (dt_at b.simulation.grid (suc at)) (sqrt_dt_at b.simulation.grid (suc at))) where
     next_state : (l : ℕ) → l < 4 → lane_of n s' factors' l ≡ state_after (walk_of b (suc (path + l))) (suc at)
     unfolding state_after
@@ -100,6 +100,6 @@ module _ {b : Batch} (ok : Laid b.simulation.grid) {n path segment at : ℕ} {s 
         }
 
 -- every lane at the start
-pub lane_at_start : (n : ℕ) (start : State) (s : Lanes) (factors : List Float) → AllAt start s → Spread n start.factors factors → (l : ℕ) → l < 4 → lane_of n s factors l ≡ state_in_use n start
+pub lane_at_start : (n : ℕ) (start : State) (s : Lanes) (factors : List (List Float)) → AllAt start s → Spread n start.factors factors → (l : ℕ) → l < 4 → lane_of n s factors l ≡ state_in_use n start
 lane_at_start n start s factors a f l h =
-    rw (a.spot l h, a.z l h, a.variance l h, a.lowest l h, sym (take_is_tabulate nan n (λ (i : ℕ). get_or factors (4 * i + l) nan) start.factors f.enough (λ i j. sym (f.new i l j h))))
+    rw (a.spot l h, a.z l h, a.variance l h, a.lowest l h, sym (take_is_tabulate nan n (λ (i : ℕ). factor_at factors i l) start.factors f.enough (λ i j. sym (f.new i l j h))))

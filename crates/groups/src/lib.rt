@@ -1,5 +1,6 @@
 // A group of four paths of a batch, walked side by side: the same walks as those of one path after
-// the other, where each of their steps is finite.
+// the other, where each of their steps is finite. The walk of one path stays beside it, with its
+// state by value: a form that was asked for.
 #![tactic(auto)]
 
 ghost use Rattle.std.specs.Prelude.{◌≡◌, ℕ, suc, ◌+◌, ◌≤◌, ◌<◌, length, get_or, IfSome};
@@ -27,7 +28,7 @@ fn draws_at(draws: &Draws<'_>, path: usize, at: usize) -> [f64; 4]
 }
 
 // What is observed in each lane.
-fn observe(observation: &Observation, s: Lanes, factors: &[f64; 40]) -> [f64; 4]
+fn observe(observation: &Observation, s: Lanes, factors: &[[f64; 4]; 10]) -> [f64; 4]
     ensures { ObservedLanes observation.now s factors.now result }
 {
     match observation {
@@ -70,7 +71,7 @@ pub fn walk_four(
         mirrored: batch.mirrored,
         total: sched.total,
     };
-    let mut factors = [0.0; 40];
+    let mut factors = [[0.0; 4]; 10];
     lanes::spread(k.n, start.factors, &mut factors);
     let mut s = lanes::all_at(start);
     let mut segment: usize = 0;
@@ -80,6 +81,7 @@ pub fn walk_four(
         if !lanes::scheme::try_step(k, p, &mut s, g, rates, &mut factors) {
             return None;
         }
+        // The segment is counted on, as in the walk of one path.
         if at + 1 == sched.last[segment] {
             let values = observe(&batch.observation, s, &factors);
             write_column(values, sched.count, segment, rows);

@@ -1,13 +1,12 @@
 -- Four lanes that are moved factor by factor. Assumes nothing.
-use Prim.Native.Nat.{ℕ, zero, suc, ◌+◌, ◌*◌, ◌≤◌, ◌<◌}
+use Prim.Native.Nat.{ℕ, zero, suc, ◌+◌, ◌≤◌, ◌<◌}
 use mathlib.Core.Path.{◌≡◌, refl, sym, ap, ◌∙◌}
-use mathlib.Core.List.{List}
-use mathlib.Core.Logic.{inl, inr}
+use mathlib.Core.List.{List, []}
 use native.Mathlib.Numerals.{add-one}
 use native.Mathlib.Omega.{arith}
 use borrow.Author.Count.{below_more}
-use lib.ListN.{get_or, take}
-use lib.Seq.{get_or-take}
+use lib.ListN.{length, get_or, set, take}
+use lib.Seq.{get_or-take, get_or-set_same, get_or-set_other}
 use lib.Ieee.{Float, nan, binary64, neg}
 use Rattle.numeric.specs.Double.{plus, times, over, minus_zero, smaller}
 use Rattle.numeric.specs.Root.{root}
@@ -18,7 +17,7 @@ use Rattle.model.specs.declared.Rates.{Rates}
 use Rattle.model.specs.declared.Params.{Params}
 use Rattle.model.specs.declared.State.{State}
 use Rattle.model.specs.Inner.Rates.{RatesOf}
-use Rattle.lanes.specs.Inner.Lanes.{lane_factors, lane_of, RowMoved, LanesMoved, LanesStepped}
+use Rattle.lanes.specs.Inner.Lanes.{factor_at, lane_factors, lane_of, RowMoved, LanesMoved, LanesStepped}
 use Rattle.model.specs.Step.{weighted_sum, variance_at, read, moved, step}
 use Rattle.model.specs.Inner.InUse.{kernel_in_use}
 
@@ -29,34 +28,46 @@ sum_same weights f g zero h = refl
 sum_same weights f g (suc k) h = rw (sum_same weights f g k (λ i l. h i (omega arith)), h k (omega arith))
 
 -- the first i factors of each lane are moved, the others are as before, and z has the sums
-pub record Going (i : ℕ) (forcing divisors weights before after z : List Float) : Type 0 where
-  pub new : (j l : ℕ) → j < i → l < 4 → get_or after (4 * j + l) nan ≡ over (plus (get_or before (4 * j + l) nan) (get_or forcing l nan)) (get_or divisors j nan)
-  pub rest : (x : ℕ) → 4 * i ≤ x → get_or after x nan ≡ get_or before x nan
+pub record Going (i : ℕ) (forcing divisors weights : List Float) (before after : List (List Float)) (z : List Float) : Type 0 where
+  pub new : (j l : ℕ) → j < i → l < 4 → factor_at after j l ≡ over (plus (factor_at before j l) (get_or forcing l nan)) (get_or divisors j nan)
+  pub rest : (j : ℕ) → i ≤ j → get_or after j [] ≡ get_or before j []
   pub sum : (l : ℕ) → l < 4 → get_or z l nan ≡ weighted_sum weights (lane_factors i after l) i
 
-pub going_more : (i : ℕ) (forcing divisors weights before after next z z' : List Float) → Going i forcing divisors weights before after z → RowMoved forcing (get_or divisors i nan) (4 * i) after next → ((l : ℕ) → l < 4 → get_or z' l nan ≡ plus (get_or z l nan) (times (get_or weights i nan) (get_or next (4 * i + l) nan))) → Going (i + 1) forcing divisors weights before next z'
+pub going_more : (i : ℕ) (forcing divisors weights : List Float) (before after : List (List Float)) (row z z' : List Float) → i < length after → Going i forcing divisors weights before after z → RowMoved forcing (get_or divisors i nan) (get_or after i []) row → ((l : ℕ) → l < 4 → get_or z' l nan ≡ plus (get_or z l nan) (times (get_or weights i nan) (factor_at (set after i row) i l))) → Going (i + 1) forcing divisors weights before (set after i row) z'
 unfolding weighted_sum
-going_more i forcing divisors weights before after next z z' g r s =
+going_more i forcing divisors weights before after row z z' b g r s =
     record {
       new = λ j l h k.
-          below_more (λ (j : ℕ). get_or next (4 * j + l) nan ≡ over (plus (get_or before (4 * j + l) nan) (get_or forcing l nan)) (get_or divisors j nan)) i
-          (λ j m. r.kept (4 * j + l) (inl (omega arith)) ∙ g.new j l m k)
-          (r.new l k ∙ ap (λ (x : Float). over (plus x (get_or forcing l nan)) (get_or divisors i nan)) (g.rest (4 * i + l) (omega arith))) j h;
-      rest = λ x h. r.kept x (inr (omega arith)) ∙ g.rest x (omega arith);
+          below_more (λ (j : ℕ). factor_at next j l ≡ over (plus (factor_at before j l) (get_or forcing l nan)) (get_or divisors j nan)) i
+          (λ j m. ap (in_lane l) (other j (λ e. absurd (omega arith))) ∙ g.new j l m k)
+          (here l ∙ r l k ∙ ap (λ (x : List Float). over (plus (get_or x l nan) (get_or forcing l nan)) (get_or divisors i nan)) (g.rest i (omega arith))) j h;
+      rest = λ j h. other j (λ e. absurd (omega arith)) ∙ g.rest j (omega arith);
       sum = λ l k. s l k ∙ next_sum l k ∙ ap (weighted_sum weights (lane_factors (i + 1) next l)) (sym (add-one i));
     }
   where
+    next : List (List Float)
+    next = set after i row
+
+    in_lane : ℕ → List Float → Float
+    in_lane l x = get_or x l nan
+
+    other : (j : ℕ) → (j ≡ i → ⊥) → get_or next j [] ≡ get_or after j []
+    other j e = get_or-set_other after i j row [] e
+
+    here : (l : ℕ) → factor_at next i l ≡ get_or row l nan
+    here l = ap (in_lane l) (get_or-set_same after i row [] b)
+
     kept_sum : (l : ℕ) → l < 4 → weighted_sum weights (lane_factors i after l) i ≡ weighted_sum weights (lane_factors (i + 1) next l) i
     kept_sum l k =
-        sum_same weights _ _ i (λ j m. get_d_tabulate i j (λ (x : ℕ). get_or after (4 * x + l) nan) nan m ∙ sym (r.kept (4 * j + l) (inl (omega arith))) ∙ sym (get_d_tabulate (i + 1) j (λ (x : ℕ). get_or next (4 * x + l) nan) nan (omega arith)))
+        sum_same weights _ _ i (λ j m. get_d_tabulate i j (λ (x : ℕ). factor_at after x l) nan m ∙ sym (ap (in_lane l) (other j (λ e. absurd (omega arith)))) ∙ sym (get_d_tabulate (i + 1) j (λ (x : ℕ). factor_at next x l) nan (omega arith)))
 
-    last : (l : ℕ) → get_or next (4 * i + l) nan ≡ get_or (lane_factors (i + 1) next l) i nan
-    last l = sym (get_d_tabulate (i + 1) i (λ (x : ℕ). get_or next (4 * x + l) nan) nan (omega arith))
+    last : (l : ℕ) → factor_at next i l ≡ get_or (lane_factors (i + 1) next l) i nan
+    last l = sym (get_d_tabulate (i + 1) i (λ (x : ℕ). factor_at next x l) nan (omega arith))
 
-    next_sum : (l : ℕ) → l < 4 → plus (get_or z l nan) (times (get_or weights i nan) (get_or next (4 * i + l) nan)) ≡ weighted_sum weights (lane_factors (i + 1) next l) (suc i)
-    next_sum l k = ap (λ (x : Float). plus x (times (get_or weights i nan) (get_or next (4 * i + l) nan))) (g.sum l k ∙ kept_sum l k) ∙ ap (λ (x : Float). plus (weighted_sum weights (lane_factors (i + 1) next l) i) (times (get_or weights i nan) x)) (last l)
+    next_sum : (l : ℕ) → l < 4 → plus (get_or z l nan) (times (get_or weights i nan) (factor_at next i l)) ≡ weighted_sum weights (lane_factors (i + 1) next l) (suc i)
+    next_sum l k = ap (λ (x : Float). plus x (times (get_or weights i nan) (factor_at next i l))) (g.sum l k ∙ kept_sum l k) ∙ ap (λ (x : Float). plus (weighted_sum weights (lane_factors (i + 1) next l) i) (times (get_or weights i nan) x)) (last l)
 
-pub going_none : (forcing divisors weights before z : List Float) → ((l : ℕ) → l < 4 → get_or z l nan ≡ minus_zero) → Going 0 forcing divisors weights before before z
+pub going_none : (forcing divisors weights : List Float) (before : List (List Float)) (z : List Float) → ((l : ℕ) → l < 4 → get_or z l nan ≡ minus_zero) → Going 0 forcing divisors weights before before z
 unfolding weighted_sum
 going_none forcing divisors weights before z s =
     record { new = λ j l h k. absurd (omega arith); rest = λ x h. refl; sum = λ l k. s l k }
@@ -74,12 +85,12 @@ unfolding weighted_sum
 weights_take weights f n zero h = refl
 weights_take weights f n (suc k) h = rw (weights_take weights f n k (omega arith), get_or-take n weights k nan h)
 
-module _ (k : Kernel) (p : Params) (s : Lanes) (rates : Rates) (forcing before after z : List Float) (own : RatesOf k rates.dt rates.sqrt_dt rates) (m : LanesMoved k.n forcing rates.divisors k.weights before after z) (l : ℕ) (h : l < 4) where
+module _ (k : Kernel) (p : Params) (s : Lanes) (rates : Rates) (forcing : List Float) (before after : List (List Float)) (z : List Float) (own : RatesOf k rates.dt rates.sqrt_dt rates) (m : LanesMoved k.n forcing rates.divisors k.weights before after z) (l : ℕ) (h : l < 4) where
   lane_moved : lane_factors k.n after l ≡ moved (kernel_in_use k) (lane_factors k.n before l) (get_or forcing l nan) rates.dt
   unfolding moved
   lane_moved =
       tabulate_same nan k.n _ _
-      (λ i j. m.new i l j h ∙ rw (own.divisor i j, get_d_tabulate k.n i (λ (x : ℕ). get_or before (4 * x + l) nan) nan j, get_or-take k.n k.discounts i nan j))
+      (λ i j. m.new i l j h ∙ rw (own.divisor i j, get_d_tabulate k.n i (λ (x : ℕ). factor_at before x l) nan j, get_or-take k.n k.discounts i nan j))
 
   lane_sum : get_or z l nan ≡ weighted_sum (take k.n k.weights) (lane_factors k.n after l) k.n
   lane_sum = m.sum l h ∙ sym (weights_take k.weights _ k.n k.n (omega arith))
@@ -107,7 +118,7 @@ module _ (k : Kernel) (p : Params) (s : Lanes) (rates : Rates) (forcing before a
       ∙ ap (read (kernel_in_use k) p spot lowest) (lane_moved ∙ ap (λ (x : Float). moved (kernel_in_use k) (lane_factors k.n before l) x rates.dt) f)
       ∙ rw (b, q, e)
 
-pub lanes_stepped : (roots : List Float) (k : Kernel) (p : Params) (s : Lanes) (g : List Float) (rates : Rates) (before after : List Float) (next : Lanes) (forcing : List Float)
+pub lanes_stepped : (roots : List Float) (k : Kernel) (p : Params) (s : Lanes) (g : List Float) (rates : Rates) (before after : List (List Float)) (next : Lanes) (forcing : List Float)
     → RatesOf k rates.dt rates.sqrt_dt rates
     → LanesMoved k.n forcing rates.divisors k.weights before after next.z
     → ((l : ℕ) → l < 4 → get_or forcing l nan ≡ forcing_of p rates.dt (get_or s.z l nan) (diffusion_of rates.sqrt_dt (get_or roots l nan) (get_or g l nan)))

@@ -1,5 +1,5 @@
-// Four states of the model side by side, which the compiler works two at a time. Factor i of lane l
-// is at 4 * i + l of a table of factors.
+// Four states of the model side by side, which the compiler works two at a time. A table of factors
+// has a row for each factor, with a place for each lane.
 #![tactic(auto)]
 
 ghost use Rattle.std.specs.Prelude.{◌≡◌, true, ℕ, ◌≤◌, ◌<◌, get_or};
@@ -24,7 +24,7 @@ pub struct Lanes {
     pub lowest: [f64; 4],
 }
 
-// Every lane at the same state.
+// Every lane at the same state. (No `From`: the name says in how many places.)
 pub fn all_at(s: State) -> Lanes
     ensures { AllAt s result }
 {
@@ -36,13 +36,13 @@ pub fn all_at(s: State) -> Lanes
     }
 }
 
-// The first n of `values`, in every lane.
-pub fn spread(n: usize, values: [f64; 10], factors: &mut [f64; 40])
+// The first n of `values`, in every lane. (No kernel: n alone of it would be read.)
+pub fn spread(n: usize, values: [f64; 10], factors: &mut [[f64; 4]; 10])
     requires { n ≤ 10 }
     ensures { Spread n values factors.new }
 {
-    for x in 0..4 * n {
-        factors[x] = values[x / 4];
+    for i in 0..n {
+        factors[i] = [values[i]; 4];
     }
 }
 

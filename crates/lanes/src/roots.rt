@@ -6,10 +6,10 @@ ghost use Rattle.numeric.specs.Root.{root};
 use crate::Lanes;
 
 // About √x. There is no branch, so that the compiler works two numbers together. 1 / √x comes from
-// half of x's bits and two steps of Newton's method, as in numeric's guess. The last step is of
-// fourth order; in it `upper` is the upper half of the digits of s, which is about √x: c is about
-// 2^27 × √x, so that s + c keeps these. At a normal number it is wrong in about one case of two
-// million, and within a hundred thousand units of a power of four in about one of five.
+// half of x's bits and two steps of Newton's method, as in numeric's guess; the rest differs. The
+// last step is of fourth order; in it `upper` is the upper half of the digits of s, which is about
+// √x: c is about 2^27 × √x, so that s + c keeps these. At a normal number it is wrong in about one
+// case of two million, and within a hundred thousand units of a power of four in about one of five.
 fn near_root(x: f64) -> f64 {
     let h = 0.5 * x;
     let half = (numeric::bits_of(x) >> 1) % 0x4000_0000_0000_0000;

@@ -1,4 +1,5 @@
-// One step of the scheme in every lane.
+// One step of the scheme in every lane. Kernel and parameters stay two arguments, as in the
+// definition, and that the rates are the kernel's is no fact of one type.
 ghost use Rattle.std.specs.Prelude.{◌≡◌, true, ℕ, ◌≤◌, ◌<◌, get_or};
 ghost use Rattle.std.specs.Float.{nan};
 ghost use Rattle.numeric.specs.Double.{smaller};
@@ -9,13 +10,14 @@ ghost use Rattle.lanes.specs.Inner.Lanes.{LanesMoved, LanesStepped, LaneSteps};
 use crate::{Lanes, roots, rows};
 use model::{Kernel, Params, Rates, scheme};
 
-// Every factor moved, and each lane's sum of weight × factor, in index order, begun at -0.0.
+// Every factor moved, and each lane's sum of weight × factor, in index order, begun at -0.0. (No
+// kernel, as in the step of one path: of its tables the weights alone are read.)
 fn move_factors(
     n: usize,
     forcing: [f64; 4],
     divisors: &[f64; 10],
     weights: &[f64; 10],
-    factors: &mut [f64; 40],
+    factors: &mut [[f64; 4]; 10],
 ) -> [f64; 4]
     requires { n ≤ 10 }
     ensures { LanesMoved n forcing divisors.now weights.now
@@ -23,9 +25,8 @@ fn move_factors(
 {
     let mut z = [-0.0; 4];
     for i in 0..n {
-        let at = 4 * i;
-        rows::move_row(forcing, divisors[i], at, factors);
-        let sum = rows::add_products(z, [weights[i]; 4], at, &factors[..]);
+        rows::move_row(forcing, divisors[i], &mut factors[i]);
+        let sum = rows::add_products(z, [weights[i]; 4], &factors[i]);
         z = sum;
     }
     z
@@ -53,7 +54,7 @@ fn step_with(
     s: Lanes,
     g: [f64; 4],
     rates: Rates,
-    factors: &mut [f64; 40],
+    factors: &mut [[f64; 4]; 10],
 ) -> Lanes
     requires { RatesOf k rates.dt rates.sqrt_dt rates }
     ensures { LanesStepped roots k p s g rates
@@ -90,7 +91,7 @@ pub fn try_step(
     s: &mut Lanes,
     g: [f64; 4],
     rates: Rates,
-    factors: &mut [f64; 40],
+    factors: &mut [[f64; 4]; 10],
 ) -> bool
     requires { RatesOf k rates.dt rates.sqrt_dt rates }
     ensures { result ≡ true → (l : ℕ) → l < 4

@@ -6,7 +6,7 @@ use native.Mathlib.Omega.{arith}
 use lib.ListN.{length, get_or, take, get_or-eq_default}
 use lib.Seq.{get_or-take}
 use lib.Ieee.{Float, nan, binary64, neg}
-use Rattle.numeric.specs.Double.{plus, times, one, smaller}
+use Rattle.numeric.specs.Double.{plus, times, smaller}
 use Rattle.numeric.proofs.Tables.{take_is_tabulate}
 use Rattle.numeric.specs.Root.{root}
 use Rattle.model.specs.declared.Kernel.{Kernel}

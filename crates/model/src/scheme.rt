@@ -9,13 +9,12 @@ use crate::{Kernel, Params, Rates, State, TimeGrid};
 use refusal::Quantity;
 
 // The sum of weight × factor, in index order, begun at -0.0.
-fn weighted_sum(n: usize, weights: &[f64; 10], factors: &[f64; 10]) -> f64
-    requires { n ≤ 10 }
-    ensures { result ≡ weighted_sum weights.now factors.now n }
+fn weighted_sum(k: &Kernel, factors: &[f64; 10]) -> f64
+    ensures { result ≡ weighted_sum k.now.weights factors.now k.now.n }
 {
     let mut sum = -0.0;
-    for i in 0..n {
-        sum += weights[i] * factors[i];
+    for i in 0..k.n {
+        sum += k.weights[i] * factors[i];
     }
     sum
 }
@@ -34,7 +33,7 @@ pub fn read(k: Kernel, p: Params, spot: f64, lowest: f64, factors: [f64; 10]) ->
     ensures { state_in_use k.n result
         ≡ read (kernel_in_use k) p spot lowest (take k.n factors) }
 {
-    let z = weighted_sum(k.n, &k.weights, &factors);
+    let z = weighted_sum(&k, &factors);
     let variance = variance_at(p, z);
     State {
         spot,
@@ -60,8 +59,8 @@ pub fn rates_of(k: Kernel, dt: f64, sqrt_dt: f64) -> Rates
     }
 }
 
-// The rates of a segment, counted from 0; past the 64th, where there is none, of NaNs. (No `get`:
-// it would be asked twice, for dt and sqrt_dt.)
+// The rates of a segment, counted from 0. A walk at its end asks for the next: past the 64th, which
+// has no dt, it gets those of NaNs. (One test serves dt and sqrt_dt, where `get` would make two.)
 pub fn rates_at(k: Kernel, sched: TimeGrid, segment: usize) -> Rates
     ensures { RatesOf k (get_or sched.dt segment nan)
         (get_or sched.sqrt_dt segment nan) result }
@@ -72,7 +71,8 @@ pub fn rates_at(k: Kernel, sched: TimeGrid, segment: usize) -> Rates
     rates_of(k, 0.0 / 0.0, 0.0 / 0.0)
 }
 
-// Each of the first n factors becomes (factor + forcing) / divisor.
+// Each of the first n factors becomes (factor + forcing) / divisor. (No kernel: none of its tables
+// is read. No slices: each clause would speak of prefixes.)
 fn move_factors(n: usize, factors: &[f64; 10], forcing: f64, divisors: &[f64; 10]) -> [f64; 10]
     requires { n ≤ 10 }
     ensures { Moved n factors.now forcing divisors.now result }

@@ -19,7 +19,7 @@ impl Walked {
     }
 
     // With the paths whose lowest spots these are, in their order, from the first row on. Their
-    // steps are counted as they are taken.
+    // steps are counted as they are taken. (Rows and count stay two arguments, as in tally.)
     #[tactic(auto, using(tally::proofs::Tallying::fallen_few))]
     pub(crate) fn with_ended(
         self,

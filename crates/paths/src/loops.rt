@@ -83,7 +83,8 @@ pub fn run_paths(
     let mut ended = Ok(());
     let mut path = 0;
     let mut next_group = 0;
-    // No `for`: a turn takes one path or four. The labelled break leaves both loops.
+    // No `for`: a turn takes one path or four. The labelled break leaves both loops, and the steps
+    // are counted as they are taken: forms that were asked for.
     'paths: while path < batch.paths {
         if next_group <= path && path + 4 <= batch.paths {
             if let Some(group) = walk_group(batch, payoff, path, walked, draws, observations) {
@@ -107,6 +108,8 @@ pub fn run_paths(
             }
             if step == grid.last[segment] {
                 observations[path * count + segment] = walks::observe(batch.observation, s);
+                // Counted on: a loop over segments around that over steps would state the
+                // invariant of a path twice.
                 segment += 1;
                 rates = scheme::rates_at(k, grid, segment);
             }

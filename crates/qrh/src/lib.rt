@@ -21,6 +21,7 @@ use admission::Given;
 use decimal::Decimal;
 use exponentiation::Exponentiation;
 use model::Model;
+use refusal::Refusal;
 use trace::Tracing;
 use vanilla::Estimate;
 use vix_batch::VixEstimate;
@@ -48,7 +49,7 @@ pub fn qrh_convert(d: Decimal) -> Conversion
     };
     match d.to_f64() {
         Some(value) => answer.value = value,
-        None => answer.number = 1,
+        None => answer.number = Refusal::Scale.number(),
     }
     answer
 }
@@ -60,6 +61,8 @@ pub fn qrh_sqrt(x: f64) -> f64
     numeric::sqrt(x)
 }
 
+// Four tables one by one: of a struct of four `&mut` each function would have to say that they stay
+// the same references.
 pub fn qrh_trace(
     given: &Given,
     draws: &[f64],
@@ -102,6 +105,7 @@ pub fn qrh_exponential(
     exponentiation::exponentiate(dimension, input, output, workspace)
 }
 
+// No `Given`: there is no schedule here.
 pub fn qrh_vix(
     weights: &[f64],
     discounts: &[f64],

@@ -1,4 +1,5 @@
-// The calls that price down-and-out puts, under their C names.
+// The calls that price down-and-out puts, under their C names. Parameters and calls are those of
+// the header.
 ghost use Rattle.std.specs.Prelude.{true, false};
 ghost use Rattle.model.specs.Simulation.{given};
 ghost use Rattle.vanilla.specs.declared.Terms.TheVariants.{DownAndOut};

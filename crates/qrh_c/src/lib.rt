@@ -11,6 +11,7 @@ ghost use Rattle.decimal.specs.Decimal.{convert, ConvertsToNearest};
 ghost use Rattle.model.specs.Simulation.{given};
 ghost use Rattle.trace.specs.Trace.{tables};
 ghost use Rattle.trace.specs.Call.{trace_inputs, TraceAnswered};
+ghost use Rattle.batch.specs.Questions.{style_of};
 ghost use Rattle.vanilla.specs.declared.Terms.TheVariants.{Vanilla};
 ghost use Rattle.vanilla.specs.Call.{vanilla_inputs, VanillaAnswered};
 ghost use Rattle.exponentiation.specs.Call.{matrix_inputs, ExponentialAnswered};
@@ -19,6 +20,7 @@ ghost use Rattle.vix_batch.specs.Call.{vix_batch_inputs, VixBatchAnswered};
 ghost use Rattle.qrh.specs.Conversion.{conversion};
 
 use admission::Given;
+use batch::questions;
 use decimal::Decimal;
 use exponentiation::Exponentiation;
 use model::{Model, Schedule};
@@ -90,7 +92,7 @@ pub extern "C" fn qrh_vanilla(
 ) -> Estimate
     ensures { VanillaAnswered
         (vanilla_inputs (given weights.now discounts.now model schedule)
-        (record { terms = Vanilla put strike; mirrored = false; paths = paths })
+        (record { terms = Vanilla (style_of put) strike; mirrored = false; paths = paths })
         draws.now)
         observations.old observations.new result }
 {
@@ -100,8 +102,9 @@ pub extern "C" fn qrh_vanilla(
         model,
         schedule,
     };
+    let style = questions::style_of(put);
     let order = Order {
-        terms: Terms::Vanilla { put, strike },
+        terms: Terms::Vanilla { style, strike },
         mirrored: false,
         paths,
     };
@@ -123,7 +126,7 @@ pub extern "C" fn qrh_mirrored(
 ) -> Estimate
     ensures { VanillaAnswered
         (vanilla_inputs (given weights.now discounts.now model schedule)
-        (record { terms = Vanilla put strike; mirrored = true; paths = paths })
+        (record { terms = Vanilla (style_of put) strike; mirrored = true; paths = paths })
         draws.now)
         observations.old observations.new result }
 {
@@ -133,8 +136,9 @@ pub extern "C" fn qrh_mirrored(
         model,
         schedule,
     };
+    let style = questions::style_of(put);
     let order = Order {
-        terms: Terms::Vanilla { put, strike },
+        terms: Terms::Vanilla { style, strike },
         mirrored: true,
         paths,
     };

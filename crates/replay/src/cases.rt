@@ -1,6 +1,7 @@
 // The cases of a file, one after another, and what comes of them.
 use crate::calls::Call;
 use crate::fault::Fault;
+use crate::vanillas::Kind;
 use crate::words::Reader;
 use crate::{exponentials, scalar, traces, vanillas, vix_calls};
 use std::alloc::{AllocError, Global};
@@ -48,9 +49,10 @@ impl<'a> Case<'a> {
             Call::VixEvaluation => vix_calls::evaluation(case, alloc),
             Call::VixBatch => vix_calls::batch(case, alloc),
             Call::Exponential => exponentials::replay(case, alloc),
-            Call::Vanilla | Call::Mirrored | Call::DownAndOut | Call::MirroredDownAndOut => {
-                vanillas::replay(case, alloc, self.call)
-            }
+            Call::Vanilla => vanillas::replay(case, alloc, Kind::Vanilla, false),
+            Call::Mirrored => vanillas::replay(case, alloc, Kind::Vanilla, true),
+            Call::DownAndOut => vanillas::replay(case, alloc, Kind::DownAndOut, false),
+            Call::MirroredDownAndOut => vanillas::replay(case, alloc, Kind::DownAndOut, true),
         }?;
         words.ends()
     }

@@ -79,7 +79,8 @@ impl<'a> Reader<'a> {
     }
 }
 
-// Whether two doubles have the same bits; any NaN is as any other.
+// Whether two doubles have the same bits; any NaN is as any other. (One line, which `figures` has
+// too: a library for it is no plainer.)
 pub(crate) fn same(x: f64, y: f64) -> bool
     ensures { IsTrue result ↔ (x ≡ y) }
 {

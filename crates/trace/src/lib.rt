@@ -42,7 +42,8 @@ pub struct Lengths {
     pub factors: usize,
 }
 
-// How long the tables of so many points with n factors are.
+// How long the tables of so many points with n factors are. (No kernel, here and below: the lengths
+// are those of a number of factors, whatever the factors are.)
 #[tactic(auto, using(crate::proofs::Tables::factors_fit))]
 fn lengths_needed(points: usize, n: usize) -> Lengths
     requires { (points ≤ 4097) × (n ≤ 10) }
@@ -56,7 +57,7 @@ fn lengths_needed(points: usize, n: usize) -> Lengths
     }
 }
 
-// A refusal, with the steps taken by then.
+// A refusal, with the steps taken by then. (No `From`: it is made of two things.)
 fn refused(refusal: Refusal, steps: u64) -> Tracing
     ensures { result ≡ refused_after steps refusal }
 {
@@ -68,23 +69,25 @@ fn refused(refusal: Refusal, steps: u64) -> Tracing
 }
 
 // The steps taken, or 22; a trace is path 1.
-fn answered(traced: Result<u64, Stopped>) -> Tracing
-    ensures { result ≡ answered traced }
-{
-    match traced {
-        Ok(steps) => Tracing {
-            number: 0,
-            place: [0; 4],
-            steps,
-        },
-        Err(Stopped { step, quantity }) => {
-            let not_finite = Refusal::NonFinite {
-                path: 1,
-                step,
-                quantity,
-                steps: step,
-            };
-            refused(not_finite, step)
+impl From<Result<u64, Stopped>> for Tracing {
+    ghost from_gives = { λ traced r. r ≡ answered traced };
+
+    fn from(traced: Result<u64, Stopped>) -> Tracing {
+        match traced {
+            Ok(steps) => Tracing {
+                number: 0,
+                place: [0; 4],
+                steps,
+            },
+            Err(Stopped { step, quantity }) => {
+                let not_finite = Refusal::NonFinite {
+                    path: 1,
+                    step,
+                    quantity,
+                    steps: step,
+                };
+                refused(not_finite, step)
+            }
         }
     }
 }
@@ -131,7 +134,9 @@ pub fn trace(
         factors: factors.len(),
     };
     match admitted(given, draws.len(), lent) {
-        Ok(simulation) => answered(walk::walk(simulation, draws, spots, variances, z, factors)),
+        Ok(simulation) => Tracing::from(walk::walk(
+            simulation, draws, spots, variances, z, factors,
+        )),
         Err(refusal) => refused(refusal, 0),
     }
 }

@@ -8,17 +8,20 @@ ghost use Rattle.trace.specs.Inner.Points.{Sized, Written, PointWritten};
 use crate::Stopped;
 use model::{Simulation, State, draws, scheme};
 
-// The first n of `values`, at the places of a point.
-fn write_factors(n: usize, values: [f64; 10], point: usize, factors: &mut [f64])
-    requires n_bound { n ≤ 10 }
-    requires n_in_bounds { point * n + n ≤ length factors.old }
-    ensures { Written (point * n) n values factors.old factors.new }
+// `values`, at the places of a point.
+fn write_factors(values: &[f64], point: usize, factors: &mut [f64])
+    requires { point * length values.now + length values.now ≤ length factors.old }
+    ensures { Written (point * length values.now) (length values.now) values.now
+        factors.old factors.new }
 {
+    let n = values.len();
     let at = point * n;
-    factors[at..at + n].copy_from_slice(&values[..n]);
+    factors[at..at + n].copy_from_slice(values);
 }
 
-// A state, as the point of that number.
+// A state, as the point of that number. The kernel alone knows how many of its factors are in use.
+// (Four tables one by one: of a struct of four `&mut` each function would have to say that they
+// stay the same references.)
 fn write_point(
     n: usize,
     s: State,
@@ -41,7 +44,7 @@ fn write_point(
     spots[point] = s.spot;
     variances[point] = s.variance;
     z[point] = s.z;
-    write_factors(n, s.factors, point, factors);
+    write_factors(&s.factors[..n], point, factors);
 }
 
 // Each point is written, up to the first step that is not finite. Answers the steps taken.
@@ -76,10 +79,10 @@ pub fn walk(
         write_point(n, s, at, spots, variances, z, factors);
         let g = draws::take_draw(draws, at);
         let next = scheme::step(kernel, params, s, g, rates);
-        if let Err(quantity) = scheme::ensure_finite(next) {
-            let step = at as u64 + 1;
-            return Err(Stopped { step, quantity });
-        }
+        let step = at as u64 + 1;
+        scheme::ensure_finite(next).map_err(|quantity| Stopped { step, quantity })?;
+        // The segment is counted on: a loop over segments around that over steps would state the
+        // invariant of a walk twice.
         if at + 1 == grid.last[segment] {
             segment += 1;
             rates = scheme::rates_at(kernel, grid, segment);

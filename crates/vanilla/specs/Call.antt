@@ -29,7 +29,7 @@ vanilla_inputs given order draws = record { given = given; order = order; draws 
 
 -- Rule 14.9: those of the strike, and of a down-and-out put those of its barrier after them
 abbrev pub terms_questions : Terms → List Question
-terms_questions (Vanilla put strike) = strike_questions strike
+terms_questions (Vanilla style strike) = strike_questions strike
 terms_questions (DownAndOut strike barrier) = strike_questions strike ++ barrier_questions barrier
 
 -- Rule 15.3: those of the model, of the terms and of the batch, with a table of so many doubles
@@ -50,7 +50,7 @@ vanilla_batch i =
 
 -- Rule 10.5: the payoff of the terms
 abbrev pub terms_payoff : Terms → Payoff
-terms_payoff (Vanilla put strike) = vanilla_at put strike
+terms_payoff (Vanilla style strike) = vanilla_at style strike
 terms_payoff (DownAndOut strike barrier) = down_and_out_at strike barrier
 
 -- Rule 10.5: the payoff of an order's terms

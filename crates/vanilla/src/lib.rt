@@ -12,14 +12,15 @@ use admission::Given;
 use batch::{Priced, pricing, questions};
 use decimal::Decimal;
 use estimates::Payoff;
+pub use estimates::Style;
 use refusal::Outcome;
 use walks::{Batch, Observation};
 
 // What is paid on the spot: a call or a put at its strike, or a put that vanishes once the spot is
-// at its barrier or below. `put` is a flag, as C hands it.
+// at its barrier or below.
 #[derive(Clone, Copy)]
 pub enum Terms {
-    Vanilla { put: bool, strike: Decimal },
+    Vanilla { style: Style, strike: Decimal },
     DownAndOut { strike: Decimal, barrier: Decimal },
 }
 
@@ -47,36 +48,38 @@ pub struct Estimate {
     pub steps: u64,
 }
 
-fn answer(priced: Priced) -> Estimate
-    ensures { result ≡ written priced }
-{
-    match priced {
-        Ok(report) => {
-            let price = report.estimates.payoff;
-            let spot = report.estimates.underlying;
-            Estimate {
-                number: 0,
-                place: [0; 4],
-                price: price.mean,
-                price_error: price.error,
-                spot_mean: spot.mean,
-                spot_error: spot.error,
-                paths: report.paths,
-                non_positive: report.non_positive,
-                steps: report.steps,
+impl From<Priced> for Estimate {
+    ghost from_gives = { λ priced r. r ≡ written priced };
+
+    fn from(priced: Priced) -> Estimate {
+        match priced {
+            Ok(report) => {
+                let price = report.estimates.payoff;
+                let spot = report.estimates.underlying;
+                Estimate {
+                    number: 0,
+                    place: [0; 4],
+                    price: price.mean,
+                    price_error: price.error,
+                    spot_mean: spot.mean,
+                    spot_error: spot.error,
+                    paths: report.paths,
+                    non_positive: report.non_positive,
+                    steps: report.steps,
+                }
             }
+            Err(refused) => Estimate {
+                number: refused.refusal.number(),
+                place: refused.refusal.place(),
+                price: 0.0,
+                price_error: 0.0,
+                spot_mean: 0.0,
+                spot_error: 0.0,
+                paths: 0,
+                non_positive: 0,
+                steps: refused.steps,
+            },
         }
-        Err(refused) => Estimate {
-            number: refused.refusal.number(),
-            place: refused.refusal.place(),
-            price: 0.0,
-            price_error: 0.0,
-            spot_mean: 0.0,
-            spot_error: 0.0,
-            paths: 0,
-            non_positive: 0,
-            steps: refused.steps,
-        },
     }
 }
 
@@ -93,16 +96,18 @@ fn terms_questions(terms: Terms) -> Outcome
     }
 }
 
+// (No `From`: the name says what is made, and a caller that reads `into` would not.)
 fn terms_payoff(terms: Terms) -> Payoff
     ensures { result ≡ terms_payoff terms }
 {
     match terms {
-        Terms::Vanilla { put, strike } => questions::vanilla_payoff(put, strike),
+        Terms::Vanilla { style, strike } => questions::vanilla_payoff(style, strike),
         Terms::DownAndOut { strike, barrier } => questions::down_and_out_payoff(strike, barrier),
     }
 }
 
-// The questions in turn, and the price where they are passed.
+// The questions in turn, and the price where they are passed. (Four arguments, here and below: of a
+// struct that holds a `&mut` each function would have to say that it stays the same reference.)
 fn priced(given: &Given, order: Order, draws: &[f64], observations: &mut [f64]) -> Priced
     ensures { VanillaAnswered (vanilla_inputs (given_of given.now) order draws.now)
         observations.old observations.new (written result) }
@@ -123,5 +128,5 @@ pub fn price(given: &Given, order: Order, draws: &[f64], observations: &mut [f64
     ensures { VanillaAnswered (vanilla_inputs (given_of given.now) order draws.now)
         observations.old observations.new result }
 {
-    answer(priced(given, order, draws, observations))
+    Estimate::from(priced(given, order, draws, observations))
 }

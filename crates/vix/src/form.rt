@@ -8,7 +8,8 @@ ghost use Rattle.vix.specs.Inner.Form.{vix_in_use};
 use crate::Vix;
 use generator_rows::state;
 
-// The form in n factors that the matrix at the front of the workspace holds.
+// The form in n factors that the matrix at the front of the workspace holds. (No kernel: none of
+// its tables is read.)
 pub(crate) fn of_matrix(n: usize, dim: usize, window: f64, work: &[f64]) -> Vix
     requires { (n ≤ 10) × (dim ≡ dimension n) × (dim * dim ≤ length work.now) }
     ensures { vix_in_use result ≡ form_of n window (matrix_at (dimension n) 0 work.now) }

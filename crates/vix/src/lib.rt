@@ -102,24 +102,24 @@ pub fn raw_squared(v: Vix, factors: [f64; 10]) -> f64
 
 // 15, 1 of the window, and 16.
 #[tactic(auto, unfolding(refusal::specs::Questions::first_no, crate::specs::Questions::window_questions))]
-fn window_questions(n: usize, window: Decimal, workspace: usize) -> Outcome
-    requires { n ≤ 10 }
-    ensures { result ≡ first_no (window_questions n window workspace) }
+fn window_questions(k: Kernel, window: Decimal, workspace: usize) -> Outcome
+    ensures { result ≡ first_no (window_questions k.n window workspace) }
 {
-    let dim = state::dimension_of(n);
+    let dim = state::dimension_of(k.n);
     refusal::ensure(window.is_positive(), Refusal::Window)?;
     refusal::ensure(window.scale_fits(), Refusal::Scale)?;
     refusal::ensure(workspace == 5 * (dim * dim), Refusal::Workspace)
 }
 
 // The form over a window, by the exponential of the moment system's generator. Where 15, 1 or 16
-// gets a No the workspace is as lent; else what it held before is lost.
+// gets a No the workspace is as lent; else what it held before is lost. (Kernel and parameters stay
+// two arguments, as in the definition.)
 pub fn prepare(k: Kernel, p: Params, window: Decimal, workspace: &mut [f64]) -> Result<Vix, Refusal>
     ensures { FormPrepared (kernel_in_use k) p window
         workspace.old workspace.new result }
 {
     let n = k.n;
-    window_questions(n, window, workspace.len())?;
+    window_questions(k, window, workspace.len())?;
     let span = window.value();
     generator::fill(k, p, span, workspace);
     let dim = state::dimension_of(n);

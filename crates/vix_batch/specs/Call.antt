@@ -14,7 +14,8 @@ use Rattle.walks.specs.declared.Observed.TheVariants.{VixSquared}
 use Rattle.walks.specs.Batch.{Batch, batch_on}
 use Rattle.estimates.specs.declared.Payoff.{Payoff}
 use Rattle.estimates.specs.declared.Payoff.TheVariants.{Future}
-use Rattle.batch.specs.Questions.{strike_questions, vanilla_at, path_questions, batch_questions}
+use Rattle.batch.specs.Questions.{strike_questions, style_of, vanilla_at}
+use Rattle.batch.specs.Questions.{path_questions, batch_questions}
 use Rattle.batch.specs.Claim.{BatchAnswer}
 use Rattle.batch.specs.Answered.{BatchAnswered}
 use Rattle.vix_batch.specs.declared.VixPayoff.{VixPayoff}
@@ -32,7 +33,7 @@ vix_batch_inputs given order draws = record { given = given; order = order; draw
 
 -- Rule 13.6: a future, or a call or a put at its strike
 abbrev pub payoff_for : VixPayoff → Payoff
-payoff_for p = cond p.future Future (vanilla_at p.put p.strike)
+payoff_for p = cond p.future Future (vanilla_at (style_of p.put) p.strike)
 
 -- Rule 14.9: of a future no strike is asked
 abbrev pub payoff_questions : VixPayoff → List Question

@@ -48,34 +48,36 @@ pub struct VixEstimate {
     pub steps: u64,
 }
 
-fn answer(priced: Priced) -> VixEstimate
-    ensures { result ≡ written priced }
-{
-    match priced {
-        Ok(report) => {
-            let payoff = report.estimates.payoff;
-            let index = report.estimates.underlying;
-            VixEstimate {
-                number: 0,
-                place: [0; 4],
-                payoff: payoff.mean,
-                payoff_error: payoff.error,
-                index: index.mean,
-                index_error: index.error,
-                paths: report.paths,
-                steps: report.steps,
+impl From<Priced> for VixEstimate {
+    ghost from_gives = { λ priced r. r ≡ written priced };
+
+    fn from(priced: Priced) -> VixEstimate {
+        match priced {
+            Ok(report) => {
+                let payoff = report.estimates.payoff;
+                let index = report.estimates.underlying;
+                VixEstimate {
+                    number: 0,
+                    place: [0; 4],
+                    payoff: payoff.mean,
+                    payoff_error: payoff.error,
+                    index: index.mean,
+                    index_error: index.error,
+                    paths: report.paths,
+                    steps: report.steps,
+                }
             }
+            Err(refused) => VixEstimate {
+                number: refused.refusal.number(),
+                place: refused.refusal.place(),
+                payoff: 0.0,
+                payoff_error: 0.0,
+                index: 0.0,
+                index_error: 0.0,
+                paths: 0,
+                steps: refused.steps,
+            },
         }
-        Err(refused) => VixEstimate {
-            number: refused.refusal.number(),
-            place: refused.refusal.place(),
-            payoff: 0.0,
-            payoff_error: 0.0,
-            index: 0.0,
-            index_error: 0.0,
-            paths: 0,
-            steps: refused.steps,
-        },
     }
 }
 
@@ -90,16 +92,18 @@ fn payoff_questions(payoff: VixPayoff) -> Outcome
     questions::strike_questions(payoff.strike)
 }
 
+// (No `From`, as of a vanilla's terms.)
 fn payoff_of(payoff: VixPayoff) -> Payoff
     ensures { result ≡ payoff_for payoff }
 {
     if payoff.future {
         return Payoff::Future;
     }
-    questions::vanilla_payoff(payoff.put, payoff.strike)
+    questions::vanilla_payoff(questions::style_of(payoff.put), payoff.strike)
 }
 
-// The questions in turn, and the price where they are passed.
+// The questions in turn, and the price where they are passed. (Five arguments, here and below, as
+// the four of a vanilla batch.)
 fn priced(
     given: &Given,
     order: Order,
@@ -138,5 +142,5 @@ pub fn price(
     ensures { VixBatchAnswered (vix_batch_inputs (given_of given.now) order draws.now)
         workspace.old workspace.new observations.old observations.new result }
 {
-    answer(priced(given, order, draws, workspace, observations))
+    VixEstimate::from(priced(given, order, draws, workspace, observations))
 }

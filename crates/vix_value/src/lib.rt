@@ -34,26 +34,28 @@ pub struct VixValue {
     pub index: f64,
 }
 
-fn answer(evaluated: Result<Evaluation, Refusal>) -> VixValue
-    ensures { result ≡ value_of evaluated }
-{
-    match evaluated {
-        Ok(Evaluation { squared, index }) => VixValue {
-            number: 0,
-            place: [0; 4],
-            squared,
-            index,
-        },
-        Err(refusal) => VixValue {
-            number: refusal.number(),
-            place: refusal.place(),
-            squared: 0.0,
-            index: 0.0,
-        },
+impl From<Result<Evaluation, Refusal>> for VixValue {
+    ghost from_gives = { λ evaluated r. r ≡ value_of evaluated };
+
+    fn from(evaluated: Result<Evaluation, Refusal>) -> VixValue {
+        match evaluated {
+            Ok(Evaluation { squared, index }) => VixValue {
+                number: 0,
+                place: [0; 4],
+                squared,
+                index,
+            },
+            Err(refusal) => VixValue {
+                number: refusal.number(),
+                place: refusal.place(),
+                squared: 0.0,
+                index: 0.0,
+            },
+        }
     }
 }
 
-// 10 and 1 again.
+// 10 and 1 again. (No form: how many factors it has is all that is asked of it.)
 #[tactic(auto, unfolding(refusal::specs::Questions::first_no, crate::specs::Call::given_questions))]
 fn given_questions(n: usize, given: Factors) -> Outcome
     requires { n ≤ 10 }
@@ -75,7 +77,8 @@ fn value_at(form: Vix, given: Factors) -> Result<Evaluation, Refusal>
 }
 
 // One admission after the other, and then the form at the factors given. (No `Given`: there is no
-// schedule here.)
+// schedule here. All six stay arguments, as C has them: with the `&mut` in a struct each function
+// would have to say that it stays the same reference.)
 fn evaluated(
     weights: &[f64],
     discounts: &[f64],
@@ -106,5 +109,5 @@ pub fn evaluate(
         (vix_inputs weights.now discounts.now model window given)
         workspace.old workspace.new result }
 {
-    answer(evaluated(weights, discounts, model, window, given, workspace))
+    VixValue::from(evaluated(weights, discounts, model, window, given, workspace))
 }

@@ -44,6 +44,7 @@ pub struct Draws<'a> {
 }
 
 impl Observation {
+    // The kind alone. (No `From`: the name says which part of it is kept.)
     pub fn observed(self) -> Observed
         ensures { result ≡ observed_of self }
     {

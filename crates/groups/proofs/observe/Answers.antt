@@ -13,7 +13,7 @@ use Rattle.vix_lanes.proofs.Forms.{lane_take}
 use Rattle.groups.proofs.observe.Goals as goal
 
 -- the form reads as many factors as it has
-fewer : (v : Vix) (factors : List Float) (n l : ℕ) → v.n ≤ n → raw_squared (vix_in_use v) (lane_factors v.n factors l) ≡ raw_squared (vix_in_use v) (lane_factors n factors l)
+fewer : (v : Vix) (factors : List (List Float)) (n l : ℕ) → v.n ≤ n → raw_squared (vix_in_use v) (lane_factors v.n factors l) ≡ raw_squared (vix_in_use v) (lane_factors n factors l)
 fewer v factors n l h =
     ap (raw_squared (vix_in_use v)) (sym (lane_take v.n n l factors h))
     ∙ squared_in_use v v.n (omega arith) (lane_factors n factors l)

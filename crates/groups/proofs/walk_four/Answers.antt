@@ -26,12 +26,12 @@ use Rattle.groups.proofs.walk_four.Goals as goal
 -- ---- what the loop's head says of the segment
 
 -- a turn is taken in a segment of the grid
-within_at : {b : Batch} {n path segment at : ℕ} {s : Lanes} {factors rows : List Float} → Laid b.simulation.grid → Beside b n path segment at s factors rows → at < b.simulation.grid.total → segment < b.simulation.grid.count
+within_at : {b : Batch} {n path segment at : ℕ} {s : Lanes} {factors : List (List Float)} {rows : List Float} → Laid b.simulation.grid → Beside b n path segment at s factors rows → at < b.simulation.grid.total → segment < b.simulation.grid.count
 within_at {b} {n} {path} {segment} {at} laid h taken =
     reached_open b.simulation.grid laid segment at h.reached taken
 
 -- there are 64 segments at most
-segment_few : {b : Batch} {n path segment at : ℕ} {s : Lanes} {factors rows : List Float} → Laid b.simulation.grid → Beside b n path segment at s factors rows → at < b.simulation.grid.total → segment < 64
+segment_few : {b : Batch} {n path segment at : ℕ} {s : Lanes} {factors : List (List Float)} {rows : List Float} → Laid b.simulation.grid → Beside b n path segment at s factors rows → at < b.simulation.grid.total → segment < 64
 segment_few laid h taken =
     omega (arith, within_at laid h taken, laid.few)
 

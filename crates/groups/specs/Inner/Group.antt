@@ -35,7 +35,7 @@ pub record GroupPrepared (b : Handed) (path : ℕ) (draws : List Float) : Type 0
       ≤ length draws
 
 -- Rule 9.1: what is observed in each lane, of states of as many factors as the form has, or more
-abbrev pub ObservedLanes : Observation → Lanes → List Float → List Float → Type 0
+abbrev pub ObservedLanes : Observation → Lanes → List (List Float) → List Float → Type 0
 ObservedLanes observation s factors values =
     (n l : ℕ) → factors_read observation ≤ n → l < 4
     → get_or values l nan ≡ observe_by observation (lane_of n s factors l)

@@ -20,23 +20,23 @@ returns-in_err-window_questions c =
     let p = err_from_is_err_and c.from_residual.result c.from_residual.ensures.1 in
     rw (p.1, p.2, ← c.k.view_is)
     (refused_early _ args.p args.window args.workspace.now _
-    (sym c.in_err-window_questions.ensures))
+    (sym (rw (← c.k.view_is) at c.in_err-window_questions.ensures)))
 
 pub fill-requires : goal.fill-requires
 fill-requires c =
-    let right = workspace_right _ _ _ (sym c.in_ok-window_questions.ensures) in
+    let right = workspace_right _ _ _ (sym (rw (← c.k.view_is) at c.in_ok-window_questions.ensures)) in
     rw (← c.k.view_is) (omega (arith, right))
 
 pub exponential-requires : goal.exponential-requires
 exponential-requires c =
-    let right = workspace_right _ _ _ (sym c.in_ok-window_questions.ensures) in (
+    let right = workspace_right _ _ _ (sym (rw (← c.k.view_is) at c.in_ok-window_questions.ensures)) in (
       dim_small c.k.invariant c.dimension_of-dim.ensures,
       long c.k.inside.n c.fill.auto.work right c.dimension_of-dim.ensures,
     )
 
 pub of_matrix-requires : goal.of_matrix-requires
 of_matrix-requires c =
-    let right = workspace_right _ _ _ (sym c.in_ok-window_questions.ensures) in
+    let right = workspace_right _ _ _ (sym (rw (← c.k.view_is) at c.in_ok-window_questions.ensures)) in
     let room = c.exponential.auto.work
     ∙ long c.k.inside.n c.fill.auto.work right c.dimension_of-dim.ensures in
     (c.k.invariant, c.dimension_of-dim.ensures, omega (arith, room))
@@ -44,7 +44,7 @@ of_matrix-requires c =
 pub returns-in_err-ok_or : goal.returns-in_err-ok_or
 returns-in_err-ok_or c =
     let args = c.args in
-    let passed = sym c.in_ok-window_questions.ensures in
+    let passed = sym (rw (← c.k.view_is) at c.in_ok-window_questions.ensures) in
     let filled = rw (← c.k.view_is) at c.fill.ensures in
     let p = err_from_is_err_and c.from_residual-in_err-ok_or.result
     c.from_residual-in_err-ok_or.ensures.1 in
@@ -57,7 +57,7 @@ returns-in_err-ok_or c =
 pub returns : goal.returns
 returns c =
     let args = c.args in
-    let passed = sym c.in_ok-window_questions.ensures in
+    let passed = sym (rw (← c.k.view_is) at c.in_ok-window_questions.ensures) in
     let filled = rw (← c.k.view_is) at c.fill.ensures in
     rw (← c.k.view_is)
     (built _ args.p args.window args.workspace.now passed

@@ -5,8 +5,8 @@ use Rattle.vix.proofs.window_questions.Goals as goal
 
 pub overflow_mul-dim : goal.overflow_mul-dim
 overflow_mul-dim c =
-    omega (arith, size_small c.requires c.dimension_of-dim.ensures)
+    omega (arith, size_small c.k.invariant c.dimension_of-dim.ensures)
 
 pub overflow_mul-dim-2 : goal.overflow_mul-dim-2
 overflow_mul-dim-2 c =
-    omega (arith, size_small c.requires c.dimension_of-dim.ensures)
+    omega (arith, size_small c.k.invariant c.dimension_of-dim.ensures)

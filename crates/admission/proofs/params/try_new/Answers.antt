@@ -28,6 +28,6 @@ unfolding start_of
 returns c =
     rw (← c.k.view_is)
     (params_prepared _ c.args.p _ c.k.invariant (held c) (sym c.in_ok-ranges.ensures)
-    (sym c.in_ok-scales.ensures) c.params_of-params.ensures
+    (sym (rw (← c.k.view_is) at c.in_ok-scales.ensures)) c.params_of-params.ensures
     (rw (← c.k.view_is) at c.read.ensures
     ∙ rw (c.params_of-params.ensures, c.value-spot.ensures, c.factors_of-factors.ensures)))

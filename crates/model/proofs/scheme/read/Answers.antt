@@ -4,5 +4,4 @@ use Rattle.model.proofs.scheme.read.Goals as goal
 
 pub returns : goal.returns
 returns c =
-    rw (← c.k.view_is)
-    (read_take _ _ _ _ _ _ _ c.weighted_sum-z.ensures c.variance_at-variance.ensures)
+    read_take _ _ _ _ _ _ _ c.weighted_sum-z.ensures c.variance_at-variance.ensures

@@ -5,4 +5,4 @@ use Rattle.model.proofs.scheme.weighted_sum.Given as goal
 
 abbrev pub invariant-loop-i : goal.invariant-loop-i
 invariant-loop-i l =
-    l.sum ≡ weighted_sum l.weights l.factors l.i
+    l.sum ≡ weighted_sum l.k.weights l.factors l.i

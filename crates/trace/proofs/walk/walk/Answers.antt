@@ -1,6 +1,10 @@
 use mathlib.Core.Path.{sym, ap, ◌≡◌, ◌∙◌}
-use Prim.Native.Nat.{◌≤◌}
+use Prim.Native.Nat.{◌≤◌, ◌+◌}
 use native.Mathlib.Omega.{arith}
+use borrow.Author.Rules.{rules}
+use Rattle.std.specs.Prelude.{Ok, Err}
+use Rattle.std.proofs.lemmas.Result.{err_from_is_err_and}
+use Rattle.refusal.specs.declared.Quantity.{Quantity}
 use Rattle.model.specs.declared.Kernel.{Kernel}
 use Rattle.model.specs.declared.Simulation.{Simulation}
 use Rattle.model.specs.Inner.Laid.{Laid}
@@ -28,31 +32,40 @@ loop-at-init c =
     walked_none _ _ _ known _ c.rates_at-rates.ensures
 
 -- the step that was taken, with the path's draw, is not finite
-pub returns-in-Err-clause-answer : goal.returns-in-Err-clause-answer
-returns-in-Err-clause-answer c =
+pub returns-in_err-map_err-clause-answer : goal.returns-in_err-map_err-clause-answer
+returns-in_err-map_err-clause-answer c =
+    let e : (q : Quantity) × (c.ensure_finite.result ≡ Err q)
+    × (c.in_err-map_err.field-0.0 ≡ record { step = c.loop-at.at + 1; quantity = q }) =
+    search rules in
     let known = prepared c.requires.le_n c.requires.laid c.requires.sized in
     let now = c.loop-at.invariant in
     let stepped = at_draw _ _ _ _ _ c.take_draw-g.ensures c.step-next.ensures in
-    let fails = sym c.ensure_finite.ensures ∙ c.in-Err.is in
-    stop_answer _ _ _ known now c.loop-at-test.true _ stepped _ fails
+    let p = err_from_is_err_and c.from_residual.result c.from_residual.ensures.1 in
+    let fails = sym c.ensure_finite.ensures ∙ e.1 in
+    rw (p.1, p.2)
+    (ap Err e.2 ∙ stop_answer _ _ _ known now c.loop-at-test.true _ stepped _ fails)
 
-pub returns-in-Err-clause-tables : goal.returns-in-Err-clause-tables
-returns-in-Err-clause-tables c =
+pub returns-in_err-map_err-clause-tables : goal.returns-in_err-map_err-clause-tables
+returns-in_err-map_err-clause-tables c =
+    let e : (q : Quantity) × (c.ensure_finite.result ≡ Err q)
+    × (c.in_err-map_err.field-0.0 ≡ record { step = c.loop-at.at + 1; quantity = q }) =
+    search rules in
     let known = prepared c.requires.le_n c.requires.laid c.requires.sized in
     let now = c.loop-at.invariant in
     let stepped = at_draw _ _ _ _ _ c.take_draw-g.ensures c.step-next.ensures in
-    let fails = sym c.ensure_finite.ensures ∙ c.in-Err.is in
+    let fails = sym c.ensure_finite.ensures ∙ e.1 in
     let written = point_written _ _ _ known now _ (rw (size_of c.kernel.view_is) at c.write_point.ensures) c.write_point.auto.factors in
     stop_tables _ _ _ known now c.loop-at-test.true _ stepped _ fails _ written
 
 -- it is finite, and ends its segment or does not
 pub loop-at-preserved : goal.loop-at-preserved
 loop-at-preserved c =
+    let fine : c.ensure_finite.result ≡ Ok tt = grind arith in
     let known = prepared c.requires.le_n c.requires.laid c.requires.sized in
     let now = c.loop-at.invariant in
     let more = c.loop-at-test.true in
     let stepped = at_draw _ _ _ _ _ c.take_draw-g.ensures c.step-next.ensures in
-    let goes = sym c.ensure_finite.ensures ∙ c.in_default.is in
+    let goes = sym c.ensure_finite.ensures ∙ fine in
     let written = point_written _ _ _ known now _ (rw (size_of c.kernel.view_is) at c.write_point.ensures) c.write_point.auto.factors in
     elim c.if-at-grid.branch [
       | then-at-grid w ↦
