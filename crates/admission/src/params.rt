@@ -103,6 +103,6 @@ pub fn try_new(k: Kernel, p: Model) -> Result<Initial, Refusal>
     let factors = factors_of(n, given);
     Ok(Initial {
         params,
-        start: scheme::read(k, params, spot, spot, factors),
+        start: scheme::read(&k, params, spot, spot, &factors),
     })
 }

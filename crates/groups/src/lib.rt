@@ -75,7 +75,7 @@ pub fn walk_four(
     lanes::spread(k.n, start.factors, &mut factors);
     let mut s = lanes::all_at(start);
     let mut segment: usize = 0;
-    let mut rates = scheme::rates_at(k, sched, segment);
+    let mut rates = scheme::rates_at(&k, &sched, segment);
     for at in 0..sched.total {
         let g = draws_at(&drawn, path, at);
         if !lanes::scheme::try_step(k, p, &mut s, g, rates, &mut factors) {
@@ -86,7 +86,7 @@ pub fn walk_four(
             let values = observe(&batch.observation, s, &factors);
             write_column(values, sched.count, segment, rows);
             segment += 1;
-            rates = scheme::rates_at(k, sched, segment);
+            rates = scheme::rates_at(&k, &sched, segment);
         }
     }
     if !lanes::all_finite(s) {

@@ -28,25 +28,27 @@ pub fn variance_at(p: Params, z: f64) -> f64
 }
 
 // The state with this spot, this lowest spot and these factors. Kernel and parameters stay two
-// arguments, here and where a step is taken: of a struct each clause would name its fields.
-pub fn read(k: Kernel, p: Params, spot: f64, lowest: f64, factors: [f64; 10]) -> State
-    ensures { state_in_use k.n result
-        ≡ read (kernel_in_use k) p spot lowest (take k.n factors) }
+// arguments, here and where a step is taken: of a struct each clause would name its fields. What is
+// larger than a few doubles is lent, but for the state: handed by value, the kernel and the rates
+// were copied at each step (a trace of ten factors took 73 ns a step in the place of 64).
+pub fn read(k: &Kernel, p: Params, spot: f64, lowest: f64, factors: &[f64; 10]) -> State
+    ensures { state_in_use k.now.n result
+        ≡ read (kernel_in_use k.now) p spot lowest (take k.now.n factors.now) }
 {
-    let z = weighted_sum(&k, &factors);
+    let z = weighted_sum(k, factors);
     let variance = variance_at(p, z);
     State {
         spot,
         z,
         variance,
-        factors,
+        factors: *factors,
         lowest,
     }
 }
 
 // The rates of a segment of `dt` years a step.
-pub fn rates_of(k: Kernel, dt: f64, sqrt_dt: f64) -> Rates
-    ensures { RatesOf k dt sqrt_dt result }
+pub fn rates_of(k: &Kernel, dt: f64, sqrt_dt: f64) -> Rates
+    ensures { RatesOf k.now dt sqrt_dt result }
 {
     let mut divisors = [1.0; 10];
     for i in 0..k.n {
@@ -61,9 +63,9 @@ pub fn rates_of(k: Kernel, dt: f64, sqrt_dt: f64) -> Rates
 
 // The rates of a segment, counted from 0. A walk at its end asks for the next: past the 64th, which
 // has no dt, it gets those of NaNs. (One test serves dt and sqrt_dt, where `get` would make two.)
-pub fn rates_at(k: Kernel, sched: TimeGrid, segment: usize) -> Rates
-    ensures { RatesOf k (get_or sched.dt segment nan)
-        (get_or sched.sqrt_dt segment nan) result }
+pub fn rates_at(k: &Kernel, sched: &TimeGrid, segment: usize) -> Rates
+    ensures { RatesOf k.now (get_or sched.now.dt segment nan)
+        (get_or sched.now.sqrt_dt segment nan) result }
 {
     if segment < 64 {
         return rates_of(k, sched.dt[segment], sched.sqrt_dt[segment]);
@@ -86,17 +88,17 @@ fn move_factors(n: usize, factors: &[f64; 10], forcing: f64, divisors: &[f64; 10
 
 // One step of the scheme, on the draw g. That the rates are the kernel's relates two values, and is
 // no fact of a type.
-pub fn step(k: Kernel, p: Params, s: State, g: f64, rates: Rates) -> State
-    requires { RatesOf k rates.dt rates.sqrt_dt rates }
-    ensures { state_in_use k.n result
-        ≡ step (kernel_in_use k) p (state_in_use k.n s) g rates.dt rates.sqrt_dt }
+pub fn step(k: &Kernel, p: Params, s: State, g: f64, rates: &Rates) -> State
+    requires { RatesOf k.now rates.now.dt rates.now.sqrt_dt rates.now }
+    ensures { state_in_use k.now.n result ≡ step (kernel_in_use k.now) p
+        (state_in_use k.now.n s) g rates.now.dt rates.now.sqrt_dt }
 {
     let dw = rates.sqrt_dt * g;
     let diffusion = numeric::sqrt(s.variance) * dw;
     let forcing = (-p.lambda) * s.z * rates.dt + p.eta * diffusion;
     let next = move_factors(k.n, &s.factors, forcing, &rates.divisors);
     let spot = s.spot + s.spot * diffusion;
-    read(k, p, spot, numeric::min(s.lowest, spot), next)
+    read(k, p, spot, numeric::min(s.lowest, spot), &next)
 }
 
 // Every weight is above zero, so a factor that is not finite leaves z not finite.

@@ -73,7 +73,7 @@ pub fn run_paths(
     let k = simulation.kernel;
     let grid = simulation.grid;
     let count = grid.count;
-    let first = scheme::rates_at(k, grid, 0);
+    let first = scheme::rates_at(&k, &grid, 0);
     let drawn = Draws {
         values: draws,
         mirrored: batch.mirrored,
@@ -99,7 +99,7 @@ pub fn run_paths(
         let mut segment = 0;
         for at in 0..grid.total {
             let g = drawn.at(path, at);
-            s = scheme::step(k, simulation.params, s, g, rates);
+            s = scheme::step(&k, simulation.params, s, g, &rates);
             let step = at + 1;
             walked.steps += 1;
             if let Err(quantity) = scheme::ensure_finite(s) {
@@ -111,7 +111,7 @@ pub fn run_paths(
                 // Counted on: a loop over segments around that over steps would state the
                 // invariant of a path twice.
                 segment += 1;
-                rates = scheme::rates_at(k, grid, segment);
+                rates = scheme::rates_at(&k, &grid, segment);
             }
         }
         let row = &observations[path * count..];

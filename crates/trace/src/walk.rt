@@ -74,18 +74,18 @@ pub fn walk(
     let total = grid.total;
     let mut s = simulation.start;
     let mut segment: usize = 0;
-    let mut rates = scheme::rates_at(kernel, grid, segment);
+    let mut rates = scheme::rates_at(&kernel, &grid, segment);
     for at in 0..total {
         write_point(n, s, at, spots, variances, z, factors);
         let g = draws::take_draw(draws, at);
-        let next = scheme::step(kernel, params, s, g, rates);
+        let next = scheme::step(&kernel, params, s, g, &rates);
         let step = at as u64 + 1;
         scheme::ensure_finite(next).map_err(|quantity| Stopped { step, quantity })?;
         // The segment is counted on: a loop over segments around that over steps would state the
         // invariant of a walk twice.
         if at + 1 == grid.last[segment] {
             segment += 1;
-            rates = scheme::rates_at(kernel, grid, segment);
+            rates = scheme::rates_at(&kernel, &grid, segment);
         }
         s = next;
     }

@@ -7,4 +7,4 @@ pub returns : goal.returns
 unfolding lib.Ieee.div lib.Ieee.of_bits
 returns c =
     let a = c.args in
-    rates_past a.k _ a.sched.dt a.sched.sqrt_dt a.segment (omega arith) (omega arith) c.rates_of-2.ensures
+    rates_past a.k.now _ a.sched.now.dt a.sched.now.sqrt_dt a.segment (omega arith) (omega arith) c.rates_of-2.ensures

@@ -9,5 +9,5 @@ returns c =
     let own = rw (← c.k.view_is) at c.requires in
     c.read.ensures
     ∙ rw (← c.k.view_is)
-    (step_take _ a.p a.s a.g a.rates _ c.k.invariant own _ _ c.sqrt.ensures.root
+    (step_take _ a.p a.s a.g a.rates.now _ c.k.invariant own _ _ c.sqrt.ensures.root
     c.min.ensures c.move_factors-next.ensures)
