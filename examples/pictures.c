@@ -10,7 +10,7 @@ enum {
     FANNED = 2000,
     SHOWN = 24,
     TOLD = 2,
-    SIZES = 11,
+    SIZES = 10,
     FIRST_SEED = 101
 };
 
@@ -177,7 +177,8 @@ static void draw_fan(const char *name) {
     free(traced.variances);
 }
 
-/* A batch of each size from 64 paths, doubled each time. */
+/* From 64 lists of draws, doubled each time, a batch with a path for each list, and one with a
+   mirrored pair for each. */
 static double column(int size) {
     return LEFT + 40 + (double)size / (SIZES - 1) * (RIGHT - LEFT - 80);
 }
@@ -196,18 +197,18 @@ static void bar(FILE *f, panel p, double x, const qrh_estimate *e, const char *s
 static void draw_convergence(const char *name) {
     qrh_estimate ordinary[SIZES], mirrored[SIZES];
     size_t most = (size_t)64 << (SIZES - 1);
-    double *draws = table(most * THREE_MONTHS), *observations = table(most * SEGMENTS);
+    double *draws = table(most * THREE_MONTHS), *observations = table(2 * most * SEGMENTS);
     draw_normals(1, draws, most * THREE_MONTHS);
     double low = 1e9, high = 0;
     for (int i = 0; i < SIZES; i++) {
-        size_t paths = (size_t)64 << i, needed = paths * THREE_MONTHS;
+        size_t lists = (size_t)64 << i, needed = lists * THREE_MONTHS;
         ordinary[i] = qrh_vanilla(weights, FACTORS, discounts, FACTORS, sample_model(),
-                                  sample_schedule(), false, decimal("100"), paths, draws, needed,
-                                  observations, paths * SEGMENTS);
+                                  sample_schedule(), false, decimal("100"), lists, draws, needed,
+                                  observations, lists * SEGMENTS);
         must_answer("qrh_vanilla", ordinary[i].number, ordinary[i].place);
         mirrored[i] = qrh_mirrored(weights, FACTORS, discounts, FACTORS, sample_model(),
-                                   sample_schedule(), false, decimal("100"), paths, draws,
-                                   needed / 2, observations, paths * SEGMENTS);
+                                   sample_schedule(), false, decimal("100"), 2 * lists, draws,
+                                   needed, observations, 2 * lists * SEGMENTS);
         must_answer("qrh_mirrored", mirrored[i].number, mirrored[i].place);
         low = fmin(low, fmin(ordinary[i].price - 2 * ordinary[i].price_error,
                              mirrored[i].price - 2 * mirrored[i].price_error));
@@ -218,27 +219,28 @@ static void draw_convergence(const char *name) {
     free(observations);
 
     panel p = {470, 96, floor(low * 2) / 2, ceil(high * 2) / 2, 0};
-    FILE *f = begin(name, 540, "The price of a call settles as the paths grow",
+    FILE *f = begin(name, 540, "The price of a call settles as the draws grow",
                     "A call at 100 to three months; bars of two standard errors either way; the "
-                    "line is the last price");
+                    "line is the last mirrored price");
     for (double v = p.low; v <= p.high; v += 0.5) rule(f, p, v);
-    double y = height(p, ordinary[SIZES - 1].price);
+    double y = height(p, mirrored[SIZES - 1].price);
     fprintf(f,
             "<line x1=\"%d\" y1=\"%.1f\" x2=\"%d\" y2=\"%.1f\" stroke=\"%s\" stroke-dasharray=\"5 "
             "4\"/>\n",
-            LEFT, y, RIGHT, y, ORDINARY);
+            LEFT, y, RIGHT, y, MIRRORED);
     for (int i = 0; i < SIZES; i++) {
         char size[32];
-        unsigned long paths = 64ul << i;
-        if (paths < 1000) snprintf(size, sizeof size, "%lu", paths);
-        else snprintf(size, sizeof size, "%lu,%03lu", paths / 1000, paths % 1000);
+        unsigned long lists = 64ul << i;
+        if (lists < 1000) snprintf(size, sizeof size, "%lu", lists);
+        else snprintf(size, sizeof size, "%lu,%03lu", lists / 1000, lists % 1000);
         bar(f, p, column(i) - 8, &ordinary[i], ORDINARY);
         bar(f, p, column(i) + 8, &mirrored[i], MIRRORED);
         label(f, column(i), p.bottom + 26, "middle", GREY, size);
     }
-    label(f, (LEFT + RIGHT) / 2, p.bottom + 52, "middle", GREY, "paths");
-    label(f, RIGHT - 230, p.top - 12, "end", ORDINARY, "ordinary batch");
-    label(f, RIGHT, p.top - 12, "end", MIRRORED, "mirrored batch, half the draws");
+    label(f, (LEFT + RIGHT) / 2, p.bottom + 52, "middle", GREY,
+          "lists of draws, one for each path or each mirrored pair");
+    label(f, RIGHT - 150, p.top - 12, "end", ORDINARY, "ordinary paths");
+    label(f, RIGHT, p.top - 12, "end", MIRRORED, "mirrored pairs");
     finish(f, name);
 }
 

@@ -1,6 +1,6 @@
-/* Prices an index call, put and down-and-out put, the mirrored twins of call and put, and a VIX
-   future, call and put, and says the answers in words. The first argument is the number of paths,
-   the second the seed. */
+/* Prices an index call, put and down-and-out put; call and put with half of the draws, by ordinary
+   paths and by mirrored pairs; and a VIX future, call and put. It says the answers in words. The
+   first argument is the number of paths, the second the seed. */
 #define _POSIX_C_SOURCE 200809L
 #include "sample.h"
 #include <time.h>
@@ -32,8 +32,8 @@ static void one_month_call(const double *observations, size_t paths, double stri
 int main(int count, char **words) {
     size_t paths = count > 1 ? strtoul(words[1], 0, 10) : 16384;
     uint64_t seed = count > 2 ? strtoul(words[2], 0, 10) : 1;
-    if (paths < 2 || paths > 65536 || paths % 2) {
-        fprintf(stderr, "an even number of paths, 2 to 65536\n");
+    if (paths < 4 || paths > 65536 || paths % 2) {
+        fprintf(stderr, "an even number of paths, 4 to 65536\n");
         return 1;
     }
     size_t needed = paths * THREE_MONTHS, half = needed / 2;
@@ -88,17 +88,20 @@ int main(int count, char **words) {
            (unsigned long long)call.non_positive, (unsigned long long)call.paths,
            (unsigned long long)call.steps);
 
-    printf("\nThe same by mirrored paths, with half of the draws\n");
-    since = seconds();
-    call = qrh_mirrored(weights, FACTORS, discounts, FACTORS, model, schedule, false, at_100, paths,
-                        draws, half, observations, paths * SEGMENTS);
-    must_answer("qrh_mirrored", call.number, call.place);
-    say("A call at 100 is worth:", call.price, call.price_error, since);
-    since = seconds();
-    put = qrh_mirrored(weights, FACTORS, discounts, FACTORS, model, schedule, true, at_100, paths,
-                       draws, half, observations, paths * SEGMENTS);
-    must_answer("qrh_mirrored", put.number, put.place);
-    say("A put at 100 is worth:", put.price, put.price_error, since);
+    printf("\nWith half of the draws: %zu ordinary paths, and %zu pairs of mirrored ones\n",
+           paths / 2, paths / 2);
+    const char *halves[] = {"A call at 100, ordinary:", "A call at 100, mirrored:",
+                            "A put at 100, ordinary:", "A put at 100, mirrored:"};
+    for (int i = 0; i < 4; i++) {
+        bool mirrored = i % 2;
+        size_t walked = mirrored ? paths : paths / 2;
+        since = seconds();
+        qrh_estimate e = (mirrored ? qrh_mirrored : qrh_vanilla)(
+            weights, FACTORS, discounts, FACTORS, model, schedule, i >= 2, at_100, walked, draws,
+            half, observations, walked * SEGMENTS);
+        must_answer(mirrored ? "qrh_mirrored" : "qrh_vanilla", e.number, e.place);
+        say(halves[i], e.price, e.price_error, since);
+    }
 
     printf("\nThe VIX, three months ahead\n");
     const char *named[] = {"The future is at:", "A call at 20 is worth:", "A put at 20 is worth:"};

@@ -40,7 +40,8 @@
     24  a path's last VIX squared is not above zero (path; none from qrh_vix)
     25  an estimate is not finite (which of the four)
     26  the dimension is not 1 to 67, or a matrix is not dimension^2 doubles long
-    27  the barrier is not above zero */
+    27  the barrier is not above zero
+    28  there are fewer than 4 paths in a mirrored batch */
 #ifndef QRH_H
 #define QRH_H
 
@@ -176,7 +177,9 @@ qrh_estimate qrh_vanilla(
     double *observations, size_t observations_length);
 
 /* The same over mirrored paths: path 2i takes the draws of path 2i - 1 negated, so there are
-   paths / 2 * N draws, and 19 asks that paths is even too. */
+   paths / 2 * N draws. Such a pair is one sample of payoff and of spot: the average of its two, so
+   that an error is that of paths / 2 averages. Paths, non-positive paths, steps and the table's
+   rows are of single paths. 19 asks that paths is even too, and between 19 and 20 stands 28. */
 qrh_estimate qrh_mirrored(
     const double *weights, size_t weights_length,
     const double *discounts, size_t discounts_length,
@@ -198,7 +201,8 @@ qrh_estimate qrh_down_and_out(
     const double *draws, size_t draws_length,
     double *observations, size_t observations_length);
 
-/* The same over mirrored paths, as in qrh_mirrored: each path has its own lowest spot. */
+/* The same over mirrored paths, as in qrh_mirrored: each path has its own lowest spot, and pays by
+   it before its pair is averaged. */
 qrh_estimate qrh_mirrored_down_and_out(
     const double *weights, size_t weights_length,
     const double *discounts, size_t discounts_length,

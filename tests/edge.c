@@ -8,7 +8,7 @@
 #include <string.h>
 
 /* The refusals are numbered from 1 to this. */
-enum { LAST_REFUSAL = 27 };
+enum { LAST_REFUSAL = 28 };
 
 static int checked, failures, seen[LAST_REFUSAL + 1];
 
@@ -303,13 +303,30 @@ static void batches(void) {
     a = vanilla(&i);
     expect("a put of the same: price 50", last_estimate.number == 0 && last_estimate.price == 50);
     forget(&a);
-    i.put = false;
-    i.draws_length = 1;
-    a = mirrored(&i);
-    expect("a mirrored batch of draw 0.5: spots 150, 50, price 25, 2 steps",
-           a.number == 0 && a.table[0] == 150 && a.table[1] == 50 && last_estimate.price == 25 &&
-               a.steps == 2);
+}
+
+static void pairs(void) {
+    const double draws[2] = {0.5, 0.25}, spots[4] = {150, 50, 125, 75};
+    inputs i = figures();
+    i.draws = draws;
+    i.paths = i.table_length = 4;
+    answer a = mirrored(&i);
+    qrh_estimate e = last_estimate;
+    expect("a mirrored batch of draws 0.5, 0.25: price 18.75, error 6.25",
+           e.number == 0 && e.price == 18.75 && e.price_error == 6.25);
+    expect("... spot mean 100, error 0, four paths, none non-positive, 4 steps",
+           e.spot_mean == 100 && bits(e.spot_error) == 0 && e.paths == 4 && e.non_positive == 0 &&
+               e.steps == 4);
+    expect("... observations 150, 50, 125, 75", holds(a.table, spots, 4));
     forget(&a);
+    /* Each path ends above 10^308, and the two of a pair add up to infinity. */
+    double far[44];
+    for (int k = 0; k < 44; k++) far[k] = 64;
+    i.draws = far, i.draws_length = 44;
+    i.schedule.segments[0].steps = 22;
+    i.model.spot = decimal(false, 0, 1, 12);
+    i.strike = whole(0);
+    refused("an average of two spots above 10^308", mirrored, i, 25, 1, 0, 0, 0, 88, 4);
 }
 
 static void barriers(void) {
@@ -445,7 +462,8 @@ static void is_estimate(const char *what, answer a, qrh_estimate want, const dou
 }
 
 static void places_of_a_batch(void) {
-    const double spots[4] = {150, 150, 150, 0}, mirrors[4] = {150, 50, 150, 50};
+    const double spots[4] = {150, 150, 150, 0}, rises[4] = {0.5, 0.5, 0.25, 0};
+    const double mirrors[4] = {203.03300858899107, -5.9016994374947416, 125, 75};
     qrh_estimate want = {.price = 30,
                          .price_error = 10,
                          .spot_mean = 112.5,
@@ -458,17 +476,20 @@ static void places_of_a_batch(void) {
     i.strike = whole(170);
     want.price = 15, want.price_error = 5;
     is_estimate("a down-and-out put over them: price 15", down_and_out(&i), want, spots);
-    want = (qrh_estimate){.price = 10,
-                          .price_error = 5.773502691896258,
-                          .spot_mean = 100,
-                          .spot_error = 28.867513459481287,
+    want = (qrh_estimate){.price = 27.008252147247767,
+                          .price_error = 19.508252147247767,
+                          .spot_mean = 99.282827287874085,
+                          .spot_error = 0.71717271212591527,
                           .paths = 4,
+                          .non_positive = 1,
                           .steps = 8};
-    i.draws_length = 4;
-    is_estimate("it over two rises, mirrored: price 10", mirrored_down_and_out(&i), want, mirrors);
     i.strike = rises_and_a_fall().strike;
-    want.price = 20, want.price_error = 11.547005383792516;
-    is_estimate("a call over them: price 20", mirrored(&i), want, mirrors);
+    i.draws = rises, i.draws_length = 4;
+    is_estimate("a call over two mirrored rises: price 27", mirrored(&i), want, mirrors);
+    i.strike = whole(230);
+    want.price = 71.741747852752241, want.price_error = 58.258252147247759;
+    is_estimate("a down-and-out put over them: price 71.7", mirrored_down_and_out(&i), want,
+                mirrors);
 }
 
 static void places_of_the_vix(void) {
@@ -610,6 +631,10 @@ static void options(void) {
     i = figures();
     i.paths = 3;
     no("three mirrored paths", mirrored, i, 19);
+    i.paths = 2;
+    no("two mirrored paths", mirrored, i, 28);
+    i.draws_length = 0;
+    no("the same, before no draws", mirrored, i, 28);
 }
 
 static void barrier_inputs(void) {
@@ -634,6 +659,8 @@ static void barrier_inputs(void) {
     i = figures();
     i.paths = 3;
     no("three mirrored paths of a down-and-out put", mirrored_down_and_out, i, 19);
+    i.paths = 2;
+    no("two of them", mirrored_down_and_out, i, 28);
 }
 
 static void stops(void) {
@@ -691,6 +718,7 @@ int main(void) {
     square_root();
     tracing();
     batches();
+    pairs();
     barriers();
     vixes();
     exponentials();

@@ -56,6 +56,7 @@ python_client() {
 clients() {
     part "The edge from C (tests/edge.c)" tests/edge.sh
     part "The example of the README (tests/readme.sh)" tests/readme.sh
+    part "Errors beside the spread over seeds (tests/spread.sh)" tests/spread.sh
     part "The Rust client (cargo test)" rust_client
     part "The Python client (unittest)" python_client python3
 }

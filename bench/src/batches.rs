@@ -75,7 +75,7 @@ impl<'a> Batch<'a> {
                 let strike = to_positive(call.strike);
                 let style = OptionStyle::Call;
                 match price_vanilla_quadratic_rough_heston(
-                    &params, &schedule, style, strike, paths, &lists,
+                    &params, &schedule, style, strike, mirrored, paths, &lists,
                 ) {
                     Ok(price) => out.extend([
                         price.price,
@@ -137,8 +137,9 @@ impl<'a> Batch<'a> {
             self.draws.len(),
             |out| {
                 let (strike, barrier) = (to_positive(put.strike), to_positive(put.barrier));
-                let price = price_down_and_out(&params, &schedule, strike, barrier, paths, &lists)
-                    .expect("a price");
+                let price =
+                    price_down_and_out(&params, &schedule, strike, barrier, false, paths, &lists)
+                        .expect("a price");
                 out.extend([
                     price.price,
                     price.standard_error,

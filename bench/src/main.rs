@@ -6,8 +6,8 @@
 //! The Rust is the copy under oracle/ (its licence is in NOTICE), whose states carry their lowest
 //! spot as the core's do. Its parameters, its schedule and its lists of draws are made outside the
 //! timed part, and it keeps no observations; the core does all of its work inside the call,
-//! questions, conversions and observations included. The library has no down-and-out put: its row
-//! is the judge's, over the same paths.
+//! questions, conversions and observations included. The library has no down-and-out put, and no
+//! mirrored pairs: their rows are the judge's, over the same paths.
 
 mod batches;
 #[path = "../../oracle/src/down_and_out.rs"]
@@ -16,6 +16,8 @@ mod inputs;
 #[allow(dead_code)]
 #[path = "../../oracle/src/optionstratlib/mod.rs"]
 mod optionstratlib;
+#[path = "../../oracle/src/samples.rs"]
+mod samples;
 mod table;
 
 use batches::batches;

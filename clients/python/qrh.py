@@ -173,7 +173,7 @@ _library = _load()
 class Refusal(ValueError):
     """The core refused a call.
 
-    number    which question was answered No (1 to 27)
+    number    which question was answered No (1 to 28)
     place     where, as far as the number has a place: counted from 1
     steps     the steps taken, at 22 and at 23 to 25 of a batch; else None
     sentence  what was wrong with the input
@@ -218,6 +218,7 @@ _SENTENCES = {
     25: "{estimate} is not finite",
     26: "the dimension is not 1 to 67, or a matrix is not exactly dimension^2 doubles long",
     27: "the barrier is not above zero",
+    28: "there are fewer than 4 paths in a mirrored batch",
 }
 
 # How many numbers a place has.
@@ -515,7 +516,10 @@ def vanilla(model, schedule, payoff, paths, draws, *, observations=None):
 
 
 def mirrored(model, schedule, payoff, paths, draws, *, observations=None):
-    """The same over mirrored paths: every second one takes the draws of the one before, negated."""
+    """The same over mirrored paths: every second one takes the draws of the one before, negated.
+
+    Such a pair is one sample: means and errors are those of the averages (first + second) / 2.
+    """
     return _batch(
         "qrh_mirrored", "qrh_mirrored_down_and_out", model, schedule, payoff, paths, draws,
         observations)

@@ -78,10 +78,9 @@ class Figures(unittest.TestCase):
         self.assertEqual(list(table), [150.0, 7.0])
 
     def test_mirrored(self):
-        answer = qrh.mirrored(model(), QUARTER, Put(100), 4, [0.5, -1.0])
-        self.assertEqual(list(answer.observations), [150.0, 50.0, 0.0, 200.0])
-        plain = qrh.vanilla(model(), QUARTER, Put(100), 4, [0.5, -0.5, -1.0, 1.0])
-        self.assertEqual(answer.price, plain.price)
+        answer = qrh.mirrored(model(), QUARTER, Call(100), 4, [0.5, 0.25])
+        self.assertEqual(answer[:7], (18.75, 6.25, 100.0, 0.0, 4, 0, 4))
+        self.assertEqual(list(answer.observations), [150.0, 50.0, 125.0, 75.0])
 
     def test_down_and_out(self):
         # The spots are 100, 150 and 100, 0: the start counts, and so does the barrier itself.
@@ -148,6 +147,9 @@ class Places(unittest.TestCase):
     UNEVEN = model(weights=[2.0], a=8, b="0.5", c=2, lambda_=3, eta="1.5", factors=["0.5"])
     TWO_QUARTERS = [Segment("0.25", 2)]
     FALL = [0.5, 0.0, 0.5, 0.0, 0.5, 0.0, -1.0, 0.0]
+    # Two lists of draws, and the spots of their mirrored paths.
+    RISES = [0.5, 0.5, 0.25, 0.0]
+    MIRRORED = [203.03300858899107, -5.9016994374947416, 125.0, 75.0]
 
     def test_each_table_of_a_trace_is_its_own(self):
         path = qrh.trace(self.UNEVEN, self.TWO_QUARTERS, [0.25, 0.0])
@@ -163,11 +165,11 @@ class Places(unittest.TestCase):
         self.assertEqual((answer.spot_mean, answer.spot_error), (112.5, 37.5))
         self.assertEqual((answer.paths, answer.non_positive, answer.steps), (4, 1, 8))
         self.assertEqual(list(answer.observations), [150.0, 150.0, 150.0, 0.0])
-        answer = qrh.mirrored(self.UNEVEN, self.TWO_QUARTERS, Call(110), 4, self.FALL[:4])
-        self.assertEqual((answer.price, answer.price_error), (20.0, 11.547005383792516))
-        self.assertEqual((answer.spot_mean, answer.spot_error), (100.0, 28.867513459481287))
-        self.assertEqual((answer.paths, answer.non_positive, answer.steps), (4, 0, 8))
-        self.assertEqual(list(answer.observations), [150.0, 50.0, 150.0, 50.0])
+        answer = qrh.mirrored(self.UNEVEN, self.TWO_QUARTERS, Call(110), 4, self.RISES)
+        self.assertEqual(answer[:2], (27.008252147247767, 19.508252147247767))
+        self.assertEqual(answer[2:4], (99.282827287874085, 0.71717271212591527))
+        self.assertEqual((answer.paths, answer.non_positive, answer.steps), (4, 1, 8))
+        self.assertEqual(list(answer.observations), self.MIRRORED)
 
     def test_each_value_of_a_barrier_batch_is_its_own(self):
         option = DownAndOut(strike=170, barrier=60)
@@ -176,11 +178,12 @@ class Places(unittest.TestCase):
         self.assertEqual((answer.spot_mean, answer.spot_error), (112.5, 37.5))
         self.assertEqual((answer.paths, answer.non_positive, answer.steps), (4, 1, 8))
         self.assertEqual(list(answer.observations), [150.0, 150.0, 150.0, 0.0])
-        answer = qrh.mirrored(self.UNEVEN, self.TWO_QUARTERS, option, 4, self.FALL[:4])
-        self.assertEqual((answer.price, answer.price_error), (10.0, 5.773502691896258))
-        self.assertEqual((answer.spot_mean, answer.spot_error), (100.0, 28.867513459481287))
-        self.assertEqual((answer.paths, answer.non_positive, answer.steps), (4, 0, 8))
-        self.assertEqual(list(answer.observations), [150.0, 50.0, 150.0, 50.0])
+        option = DownAndOut(strike=230, barrier=60)
+        answer = qrh.mirrored(self.UNEVEN, self.TWO_QUARTERS, option, 4, self.RISES)
+        self.assertEqual(answer[:2], (71.741747852752241, 58.258252147247759))
+        self.assertEqual(answer[2:4], (99.282827287874085, 0.71717271212591527))
+        self.assertEqual((answer.paths, answer.non_positive, answer.steps), (4, 1, 8))
+        self.assertEqual(list(answer.observations), self.MIRRORED)
 
     def test_each_value_of_the_vix_is_its_own(self):
         now = qrh.vix(self.UNEVEN, "0.0625", ["0.25"])
@@ -253,6 +256,8 @@ class Refusals(unittest.TestCase):
         self.refused(19, qrh.vanilla, model(), QUARTER, Call(1), 1, [0.5])
         self.refused(19, qrh.vanilla, model(), QUARTER, Call(1), 2**64 - 1, [0.5])
         self.refused(19, qrh.mirrored, model(), QUARTER, Call(1), 3, [0.5])
+        self.refused(28, qrh.mirrored, model(), QUARTER, Call(1), 2, [0.5])
+        self.refused(28, qrh.mirrored, model(), QUARTER, DownAndOut(1, 1), 2, [])
         self.refused(20, qrh.vanilla, model(), QUARTER, Call(1), 2, [0.5])
         self.refused(20, qrh.vanilla, model(), QUARTER, Call(1), 2, [])
         for short in (array("d", [0.0]), array("d")):

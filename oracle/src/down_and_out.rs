@@ -8,6 +8,7 @@ use crate::optionstratlib::quadratic_rough_heston::{
     Moments, QuadraticRoughHestonEstimate, QuadraticRoughHestonParams, Schedule, State, run_paths,
 };
 use crate::optionstratlib::stand_in::Positive;
+use crate::samples;
 use std::num::NonZeroUsize;
 
 /// What a path leaves to its payoff.
@@ -32,6 +33,7 @@ pub(crate) fn price_down_and_out(
     schedule: &Schedule,
     strike: Positive,
     barrier: Positive,
+    mirrored: bool,
     paths: NonZeroUsize,
     draws: &[Vec<f64>],
 ) -> Result<QuadraticRoughHestonEstimate, QuadraticRoughHestonError> {
@@ -50,11 +52,17 @@ pub(crate) fn price_down_and_out(
     let raw_strike = decimal_to_f64(strike.to_dec())?;
     let raw_barrier = decimal_to_f64(barrier.to_dec())?;
 
+    let mut ended = Vec::with_capacity(runs.len());
+    for run in &runs {
+        let paid = payoff(raw_strike, raw_barrier, run.observed);
+        ended.push((paid, run.observed.spot));
+    }
+
     let mut paid = Moments::default();
     let mut terminal = Moments::default();
-    for run in &runs {
-        paid.add(payoff(raw_strike, raw_barrier, run.observed));
-        terminal.add(run.observed.spot);
+    for sample in ended.chunks_exact(samples::size(mirrored)) {
+        paid.add(samples::mean(sample, |path| path.0));
+        terminal.add(samples::mean(sample, |path| path.1));
     }
 
     let (price, standard_error) = paid.estimate()?;

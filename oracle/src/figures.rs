@@ -76,12 +76,35 @@ fn batch(terms: Terms, steps: usize, draws: &[f64]) -> Case {
     }
 }
 
-fn call_at_100(draws: &[f64]) -> Case {
-    let terms = Terms::Vanilla {
+fn call_at(strike: u128) -> Terms {
+    Terms::Vanilla {
         put: false,
-        strike: whole(100),
-    };
-    batch(terms, 1, draws)
+        strike: whole(strike),
+    }
+}
+
+fn call_at_100(draws: &[f64]) -> Case {
+    batch(call_at(100), 1, draws)
+}
+
+/// A call over two paths for each list of so many draws.
+fn mirrored(spot: Decimal, strike: u128, steps: usize, draws: &[f64]) -> Case {
+    let paths = 2 * (draws.len() / steps);
+    Case::Vanilla {
+        mirrored: true,
+        model: Model {
+            inputs: edge::Model {
+                spot,
+                ..model().inputs
+            },
+            ..model()
+        },
+        schedule: schedule(&[(quarter(), steps as u32)]),
+        terms: call_at(strike),
+        paths,
+        draws: draws.to_vec(),
+        observations: paths,
+    }
 }
 
 /// A put at 200 that vanishes at a barrier.
@@ -169,5 +192,9 @@ pub fn figures() -> Vec<Case> {
         put_until(49, 2, &[-0.5, 1.0, -0.5, 1.0]),
         // A barrier of zero: 27.
         put_until(0, 1, &[0.5, -1.0]),
+        // Mirrored: two pairs; one pair alone: 28; an average that overflows: 25.
+        mirrored(whole(100), 100, 1, &[0.5, 0.25]),
+        mirrored(whole(100), 100, 1, &[0.5]),
+        mirrored(decimal(false, 1, 12), 0, 22, &[64.0; 44]),
     ]
 }

@@ -730,7 +730,12 @@ impl Source {
             0 => 2,
             _ => 2 + self.below(size.paths - 1) as usize,
         };
-        if mirrored { paths + paths % 2 } else { paths }
+        if !mirrored {
+            return paths;
+        }
+        // One pair alone is refused.
+        let pairs = if self.one_in(8) { 1 } else { 1 + paths / 2 };
+        2 * pairs
     }
 
     fn damage_paths(&mut self, paths: usize) -> usize {

@@ -10,6 +10,7 @@ pub mod guess;
 mod optionstratlib;
 pub mod questions;
 pub mod records;
+mod samples;
 
 /// What crosses the C edge.
 pub use qrh_sys as edge;

@@ -161,10 +161,11 @@ fn terms(terms: &Terms) -> Asked<()> {
     }
 }
 
-/// 19 to 21 of a batch.
+/// 19, 28, 20 and 21 of a batch.
 fn batch(paths: usize, mirrored: bool, ends: &[u64], draws: usize, table: usize) -> Asked<()> {
     ask((2..=65_536).contains(&paths), 19)?;
     ask(!mirrored || paths % 2 == 0, 19)?;
+    ask(!mirrored || paths >= 4, 28)?;
     let total = ends[ends.len() - 1] as usize;
     let drawn = if mirrored { paths / 2 } else { paths };
     ask(draws == drawn * total, 20)?;

@@ -80,7 +80,7 @@ fn vanilla(paths: usize, draws: &[f64], observations: &mut [f64]) -> Estimate {
     )
 }
 
-/// A put at 200 with the barrier, if there is one; two paths.
+/// A put at 200 with the barrier, if there is one; two paths, or two mirrored pairs.
 fn put_until(barrier: Option<u128>, mirrored: bool, draws: &[f64]) -> (Estimate, Vec<f64>) {
     let strike = whole(200);
     let terms = match barrier {
@@ -90,12 +90,9 @@ fn put_until(barrier: Option<u128>, mirrored: bool, draws: &[f64]) -> (Estimate,
             barrier: whole(barrier),
         },
     };
-    let steps = if mirrored {
-        draws.len()
-    } else {
-        draws.len() / 2
-    };
-    let mut observations = lent(1, 2);
+    let steps = draws.len() / 2;
+    let paths = if mirrored { 4 } else { 2 };
+    let mut observations = lent(1, paths);
     let answer = calls::vanilla(
         mirrored,
         &WEIGHT,
@@ -103,7 +100,7 @@ fn put_until(barrier: Option<u128>, mirrored: bool, draws: &[f64]) -> (Estimate,
         &model(),
         &schedule(&[(quarter(), steps as u32)]),
         &terms,
-        2,
+        paths,
         draws,
         &mut observations,
     );
@@ -303,30 +300,69 @@ fn step_two_and_step_three_have_their_own_dt() {
     }
 }
 
-#[test]
-fn mirrored_paths_take_negated_draws() {
-    let price = |mirrored: bool, draws: &[f64]| {
-        let mut observations = lent(1, 4);
-        let answer = calls::vanilla(
-            mirrored,
-            &WEIGHT,
-            &DISCOUNT,
-            &model(),
-            &schedule(&[(quarter(), 1)]),
-            &Terms::Vanilla {
-                put: true,
-                strike: whole(100),
-            },
-            4,
-            draws,
-            &mut observations,
-        );
-        (answer, observations)
+/// A call over mirrored paths, from this spot, with so many steps to a path.
+fn mirrored_call(
+    spot: Decimal,
+    strike: u128,
+    steps: u32,
+    paths: usize,
+    draws: &[f64],
+) -> (Estimate, Vec<f64>) {
+    let model = edge::Model { spot, ..model() };
+    let terms = Terms::Vanilla {
+        put: false,
+        strike: whole(strike),
     };
-    let mirrored = price(true, &[0.5, 0.25]);
-    assert_eq!(mirrored.0.number, 0);
-    assert_eq!(mirrored, price(false, &[0.5, -0.5, 0.25, -0.25]));
-    assert_eq!(price(true, &[0.5]).0.number, 20);
+    let mut observations = lent(1, paths);
+    let answer = calls::vanilla(
+        true,
+        &WEIGHT,
+        &DISCOUNT,
+        &model,
+        &schedule(&[(quarter(), steps)]),
+        &terms,
+        paths,
+        draws,
+        &mut observations,
+    );
+    (answer, observations)
+}
+
+#[test]
+fn a_mirrored_pair_is_one_sample() {
+    let expected = Estimate {
+        number: 0,
+        place: [0; 4],
+        price: 18.75,
+        price_error: 6.25,
+        spot_mean: 100.0,
+        spot_error: 0.0,
+        paths: 4,
+        non_positive: 0,
+        steps: 4,
+    };
+    let (answer, spots) = mirrored_call(whole(100), 100, 1, 4, &[0.5, 0.25]);
+    assert_eq!(answer, expected);
+    assert_eq!(spots, [150.0, 50.0, 125.0, 75.0]);
+}
+
+#[test]
+fn one_mirrored_pair_is_refused() {
+    // Before the draws are counted, and after the paths.
+    for (paths, draws, number) in [(2, 1, 28), (2, 0, 28), (3, 1, 19), (0, 0, 19), (4, 1, 20)] {
+        let (answer, _) = mirrored_call(whole(100), 100, 1, paths, &vec![0.5; draws]);
+        assert_eq!(answer.number, number, "{paths} paths, {draws} draws");
+        assert_eq!((answer.place, answer.steps), ([0; 4], 0));
+    }
+}
+
+#[test]
+fn an_average_that_overflows_is_not_repaired() {
+    let spot = decimal(false, 1, 12);
+    let (answer, spots) = mirrored_call(spot, 0, 22, 4, &[64.0; 44]);
+    assert!(spots.iter().all(|spot| spot.is_finite() && *spot > 1e308));
+    assert_eq!((answer.number, answer.place), (25, [1, 0, 0, 0]));
+    assert_eq!(answer.steps, 88);
 }
 
 #[test]
@@ -381,14 +417,11 @@ fn each_path_of_a_mirrored_pair_has_its_own_lowest_spot() {
     // To 50 and back up in the first path, to 150 and down in the second, or the other way round.
     for sign in [1.0, -1.0] {
         let draws = [-0.5 * sign, 0.5 * sign];
-        let negated = draws.map(|draw| -draw);
-        let (answer, spots) = put_until(Some(50), true, &draws);
-        assert_eq!(
-            (answer, spots.clone()),
-            put_until(Some(50), false, &[draws, negated].concat())
-        );
+        let (answer, spots) = put_until(Some(50), true, &[draws, draws].concat());
+        assert_eq!(spots[..2], spots[2..]);
         let risen = if sign > 0.0 { spots[1] } else { spots[0] };
         assert_eq!(answer.price, (200.0 - risen) / 2.0);
+        assert_eq!(answer.price_error, 0.0);
     }
 }
 

@@ -186,7 +186,7 @@ fn wanted(call: usize) -> Vec<String> {
     ]
     .map(String::from)
     .to_vec();
-    for paths in (2..=9).filter(|paths| !mirrored || paths % 2 == 0) {
+    for paths in (2..=9).filter(|paths| !mirrored || (*paths > 2 && paths % 2 == 0)) {
         wanted.push(format!("{paths} paths"));
     }
     for rest in (0..4).filter(|rest| !mirrored || rest % 2 == 0) {

@@ -234,7 +234,15 @@ fn mirrored_draft() -> Draft {
     valid
 }
 
-const ODD: &[No] = &[(19, NONE, |d| d.paths = 5)];
+const PAIRS: &[No] = &[
+    (19, NONE, |d| d.paths = 0),
+    (19, NONE, |d| d.paths = 1),
+    (19, NONE, |d| d.paths = 5),
+    (19, NONE, |d| d.paths = 65_537),
+    (28, NONE, |d| d.paths = 2),
+    (20, NONE, |d| d.draws.push(0.0)),
+    (21, NONE, |d| d.observations += 1),
+];
 
 const MIRRORED_STEP: &[No] = &[(22, [3, 1, 1, 11], |d| {
     if let Some(draw) = d.draws.get_mut(STEPS) {
@@ -244,14 +252,14 @@ const MIRRORED_STEP: &[No] = &[(22, [3, 1, 1, 11], |d| {
 
 #[test]
 fn mirrored() {
-    let paths = [ODD, PATHS, MIRRORED_STEP].concat();
+    let paths = [PAIRS, MIRRORED_STEP].concat();
     let groups = [KERNEL, PARAMETERS, SCHEDULE, STRIKE, &paths];
     check(&groups, &mirrored_draft(), vanilla_case);
 }
 
 #[test]
 fn mirrored_down_and_out() {
-    let paths = [ODD, PATHS, MIRRORED_STEP].concat();
+    let paths = [PAIRS, MIRRORED_STEP].concat();
     let groups = [KERNEL, PARAMETERS, SCHEDULE, STRIKE, BARRIER, &paths];
     check(&groups, &mirrored_draft(), down_and_out_case);
 }

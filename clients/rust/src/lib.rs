@@ -483,11 +483,39 @@ pub fn vanilla(
 }
 
 /// Prices as [`vanilla`] does over mirrored paths: every second path takes the draws of the path
-/// before it, negated, so `paths` is even and there are `paths` / 2 × N draws.
+/// before it, negated, so `paths` is even and there are `paths` / 2 × N draws. Such a pair is one
+/// sample: means and errors are those of the averages (first + second) / 2 of payoff and of spot.
+/// Paths, non-positive paths and observations are of single paths.
 ///
 /// # Errors
 ///
-/// As [`vanilla`].
+/// As [`vanilla`], and 28 after 19.
+///
+/// # Example
+///
+/// Two pairs of one step, with the spots 150 and 50, 125 and 75: they pay 25 and 12.5 in the mean.
+///
+/// ```
+/// use qrh::{Decimal, Model, Schedule, Vanilla};
+///
+/// # let model = Model {
+/// #     weights: vec![1.0],
+/// #     discounts: vec![4.0],
+/// #     a: Decimal::ONE,
+/// #     b: Decimal::ZERO,
+/// #     c: Decimal::from(4),
+/// #     lambda: Decimal::ONE,
+/// #     eta: Decimal::ONE,
+/// #     spot: Decimal::from(100),
+/// #     factors: vec![Decimal::ZERO],
+/// # };
+/// let schedule = Schedule::from([("0.25".parse()?, 1)]);
+/// let call = Vanilla::call(Decimal::from(100));
+/// let estimate = qrh::mirrored(&model, &schedule, &call, 4, &[0.5, 0.25], &mut [0.0; 4])?;
+/// assert_eq!((estimate.price, estimate.price_error), (18.75, 6.25));
+/// assert_eq!((estimate.spot_mean, estimate.spot_error), (100.0, 0.0));
+/// # Ok::<(), Box<dyn std::error::Error>>(())
+/// ```
 pub fn mirrored(
     model: &Model,
     schedule: &Schedule,
@@ -579,11 +607,12 @@ pub fn down_and_out(
     barrier_batch(false, model, schedule, option, paths, draws, observations)
 }
 
-/// Prices as [`down_and_out`] does over the paths of [`mirrored`], each with its own lowest spot.
+/// Prices as [`down_and_out`] does over the paths of [`mirrored`], each with its own lowest spot; a
+/// pair is one sample, as there.
 ///
 /// # Errors
 ///
-/// As [`down_and_out`].
+/// As [`down_and_out`], and 28 after 19.
 pub fn mirrored_down_and_out(
     model: &Model,
     schedule: &Schedule,

@@ -116,6 +116,8 @@ pub enum Refusal {
     Matrix,
     /// 27: the barrier is not above zero.
     Barrier,
+    /// 28: there are fewer than 4 paths in a mirrored batch.
+    Pairs,
     /// A number or a place that this crate does not know.
     Unknown { number: u32, place: [u64; 4] },
 }
@@ -185,6 +187,7 @@ impl Refusal {
             }
             26 => Self::Matrix,
             27 => Self::Barrier,
+            28 => Self::Pairs,
             _ => unknown,
         }
     }
@@ -220,6 +223,7 @@ impl Refusal {
             Self::Estimate { .. } => 25,
             Self::Matrix => 26,
             Self::Barrier => 27,
+            Self::Pairs => 28,
             Self::Unknown { number, .. } => *number,
         }
     }
@@ -327,6 +331,7 @@ fn sentence(refusal: &Refusal, f: &mut fmt::Formatter<'_>) -> fmt::Result {
             "the dimension is not 1 to 67, or a matrix is not exactly dimension^2 doubles long"
         }
         Refusal::Barrier => "the barrier is not above zero",
+        Refusal::Pairs => "there are fewer than 4 paths in a mirrored batch",
         Refusal::Unknown { .. } => {
             "the core refused the input for a reason that this client does not know"
         }

@@ -4,7 +4,7 @@ mod common;
 
 use common::{at_100, dec, model, quarter};
 use qrh::{
-    Decimal, DownAndOut, Model, Path, Quantity, Refusal, Schedule, Vanilla, VixPayoff,
+    Decimal, DownAndOut, Model, Path, Quantity, Refusal, Reported, Schedule, Vanilla, VixPayoff,
     workspace_length,
 };
 
@@ -100,23 +100,29 @@ fn vanilla_batch() {
 
 #[test]
 fn mirrored_batch() {
-    let (mut mirrored, mut plain) = ([0.0; 4], [0.0; 4]);
-    let put = Vanilla::put(Decimal::from(100));
-    let left = qrh::mirrored(&model(), &quarter(), &put, 4, &[0.5, -1.0], &mut mirrored);
-    let right = qrh::vanilla(
-        &model(),
-        &quarter(),
-        &put,
-        4,
-        &[0.5, -0.5, -1.0, 1.0],
-        &mut plain,
-    );
-    assert_eq!(mirrored, [150.0, 50.0, 0.0, 200.0]);
-    assert_eq!(mirrored, plain);
-    assert_eq!(
-        left.map(|answer| answer.spot_mean),
-        right.map(|answer| answer.spot_mean)
-    );
+    let mut spots = [0.0; 4];
+    let call = Vanilla::call(Decimal::from(100));
+    let answer = qrh::mirrored(&model(), &quarter(), &call, 4, &[0.5, 0.25], &mut spots);
+    let answer = answer.expect("an answer");
+    assert_eq!((answer.price, answer.price_error), (18.75, 6.25));
+    assert_eq!((answer.spot_mean, answer.spot_error), (100.0, 0.0));
+    assert_eq!((answer.paths, answer.non_positive, answer.steps), (4, 0, 4));
+    assert_eq!(spots, [150.0, 50.0, 125.0, 75.0]);
+}
+
+#[test]
+fn an_average_that_overflows() {
+    // Each path ends above 10^308, and the two of a pair add up to infinity.
+    let model = Model {
+        spot: dec("0.000000000001"),
+        ..model()
+    };
+    let schedule = Schedule::from([(dec("0.25"), 22)]);
+    let (call, mut spots) = (Vanilla::call(Decimal::ZERO), [0.0; 4]);
+    let answer = qrh::mirrored(&model, &schedule, &call, 4, &[64.0; 44], &mut spots);
+    let which = Reported::Payoff;
+    assert_eq!(answer, Err(Refusal::Estimate { which, steps: 88 }));
+    assert!(spots.iter().all(|spot| spot.is_finite() && *spot > 1e308));
 }
 
 /// A put at 200 that vanishes at this barrier.
@@ -259,6 +265,10 @@ fn uneven() -> (Model, Schedule) {
 /// Three paths that rise and one that falls, of two steps each.
 const FALL: [f64; 8] = [0.5, 0.0, 0.5, 0.0, 0.5, 0.0, -1.0, 0.0];
 
+/// Two lists of draws, and the spots of their mirrored paths.
+const RISES: [f64; 4] = [0.5, 0.5, 0.25, 0.0];
+const MIRRORED: [f64; 4] = [203.033_008_588_991_07, -5.901_699_437_494_742, 125.0, 75.0];
+
 // Names do not cross the edge, so in the next four tests no two values or tables of an answer are
 // equal.
 
@@ -282,18 +292,18 @@ fn each_value_of_a_batch_is_its_own() {
     assert_eq!((answer.spot_mean, answer.spot_error), (112.5, 37.5));
     assert_eq!((answer.paths, answer.non_positive, answer.steps), (4, 1, 8));
     assert_eq!(spots, [150.0, 150.0, 150.0, 0.0]);
-    let answer = qrh::mirrored(&model, &schedule, &call, 4, &FALL[..4], &mut spots);
+    let answer = qrh::mirrored(&model, &schedule, &call, 4, &RISES, &mut spots);
     let answer = answer.expect("an answer");
     assert_eq!(
         (answer.price, answer.price_error),
-        (20.0, 11.547_005_383_792_516)
+        (27.008_252_147_247_767, 19.508_252_147_247_767)
     );
     assert_eq!(
         (answer.spot_mean, answer.spot_error),
-        (100.0, 28.867_513_459_481_287)
+        (99.282_827_287_874_08, 0.717_172_712_125_915_3)
     );
-    assert_eq!((answer.paths, answer.non_positive, answer.steps), (4, 0, 8));
-    assert_eq!(spots, [150.0, 50.0, 150.0, 50.0]);
+    assert_eq!((answer.paths, answer.non_positive, answer.steps), (4, 1, 8));
+    assert_eq!(spots, MIRRORED);
 }
 
 #[test]
@@ -310,18 +320,22 @@ fn each_value_of_a_barrier_batch_is_its_own() {
     assert_eq!((answer.spot_mean, answer.spot_error), (112.5, 37.5));
     assert_eq!((answer.paths, answer.non_positive, answer.steps), (4, 1, 8));
     assert_eq!(spots, [150.0, 150.0, 150.0, 0.0]);
-    let answer = qrh::mirrored_down_and_out(&model, &schedule, &put, 4, &FALL[..4], &mut spots);
+    let put = DownAndOut {
+        strike: Decimal::from(230),
+        ..put
+    };
+    let answer = qrh::mirrored_down_and_out(&model, &schedule, &put, 4, &RISES, &mut spots);
     let answer = answer.expect("an answer");
     assert_eq!(
         (answer.price, answer.price_error),
-        (10.0, 5.773_502_691_896_258)
+        (71.741_747_852_752_24, 58.258_252_147_247_76)
     );
     assert_eq!(
         (answer.spot_mean, answer.spot_error),
-        (100.0, 28.867_513_459_481_287)
+        (99.282_827_287_874_08, 0.717_172_712_125_915_3)
     );
-    assert_eq!((answer.paths, answer.non_positive, answer.steps), (4, 0, 8));
-    assert_eq!(spots, [150.0, 50.0, 150.0, 50.0]);
+    assert_eq!((answer.paths, answer.non_positive, answer.steps), (4, 1, 8));
+    assert_eq!(spots, MIRRORED);
 }
 
 #[test]

@@ -128,6 +128,10 @@ fn batches() {
     assert_eq!(price("100", 2, 2, 3), Refusal::TableLength);
     let odd = qrh::mirrored(&model(), &quarter(), &at_100(), 3, &[0.5], &mut [0.0; 3]);
     assert_eq!(odd, Err(Refusal::PathCount));
+    for draws in [&[0.5][..], &[]] {
+        let pair = qrh::mirrored(&model(), &quarter(), &at_100(), 2, draws, &mut [0.0; 2]);
+        assert_eq!(pair, Err(Refusal::Pairs));
+    }
 }
 
 #[test]

@@ -30,6 +30,7 @@ use Rattle.walks.specs.Inner.Handed.{batch_of}
 use Rattle.walks.specs.Batch.{Batch, walk_of, observation}
 use Rattle.walks.proofs.Cells.{row_below}
 use Rattle.estimates.specs.declared.Payoff.{Payoff}
+use Rattle.estimates.specs.Inner.Tally.{tally_of}
 use Rattle.estimates.proofs.Values.{SameUpTo}
 use Rattle.paths.specs.declared.Walked.{Walked}
 use Rattle.paths.specs.declared.Refused.{Refused}
@@ -266,7 +267,7 @@ module _
     unfolding report_of
     done e =
         let other : ((answer_of b (priced_at b payoff none)).number ≡ 22 → ⊥) =
-        reported_other b.observed payoff seen lowest b.paths refused
+        reported_other b.observed b.mirrored payoff seen lowest b.paths refused
         (λ x. Ok (report_with b x)) (λ r. (answer_of b r).number ≡ 22 → ⊥) (λ r other. other) (λ x h. omega (arith, h)) in
         record {
           walks = walks;
@@ -280,9 +281,9 @@ module _
           );
           names = λ h. absurd (other h);
           otherwise = λ none.
-              reported_read b.observed payoff seen lowest b.paths refused
+              reported_read b.observed b.mirrored payoff seen lowest b.paths refused
               (λ x. Ok (report_with b x)) (answer_of b)
-              ∙ reported_same b.observed payoff seen walked lowest b.paths
+              ∙ reported_same b.observed b.mirrored payoff seen walked lowest b.paths
               (λ p l h. last_step_lem p) _ (λ x. priced_answer b.observed (report_with b x));
           written = written b lent laid.some rows;
         }
@@ -339,7 +340,7 @@ module _
     goes : (o : Option RunStop) → run_stop batch batch.paths ≡ o → (w : Walked)
         → Ok w ≡ run_at batch payoff o
         → priced_from w handed table ≡ priced_at batch payoff o
-    unfolding priced_from reported_of reported report_with
+    unfolding priced_from reported_of reported report_with tally_of
     goes (some y) h w e = let never : ◌≡◌ {A = ℕ} 0 1 = cc in absurd (omega arith)
     goes none h w e =
         let is : w ≡ walked_of batch payoff = cc in

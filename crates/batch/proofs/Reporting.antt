@@ -1,5 +1,6 @@
 -- What is made of the last observations of a batch. Assumes nothing.
 use mathlib.Core.Path.{◌≡◌, refl, ap, ◌∙◌}
+use mathlib.Core.Bool.{Bool}
 use mathlib.Core.List.{List}
 use Prim.Native.Nat.{ℕ, zero, suc}
 use native.Mathlib.Omega.{arith}
@@ -15,20 +16,20 @@ use Rattle.walks.specs.declared.Observed.{Observed}
 use Rattle.walks.specs.declared.Observed.TheVariants.{Spot, VixSquared}
 use Rattle.estimates.specs.declared.Estimates.{Estimates}
 use Rattle.estimates.specs.declared.Payoff.{Payoff}
-use Rattle.estimates.specs.declared.Tally.{Tally}
-use Rattle.estimates.specs.Payoff.{underlying_of}
-use Rattle.estimates.specs.Moments.{tally_of, estimates_from, not_finite}
-use Rattle.estimates.proofs.Values.{SameUpTo, tally_same}
-use Rattle.batch.specs.Report.{squared_questions, last_questions, unless_not_finite, reported}
+use Rattle.estimates.specs.Payoff.{payoff_of, underlying_of}
+use Rattle.estimates.specs.Moments.{estimates_of, not_finite}
+use Rattle.estimates.proofs.Values.{SameUpTo, estimates_same}
+use Rattle.batch.specs.Report.{squared_questions, last_questions, unless_not_finite}
+use Rattle.batch.specs.Report.{underlying_at, paid_at, reported}
 
 -- by the outcome of 23 and 24, and by which estimate is not finite
 abbrev by : {A : Type 0} → Outcome → Optional Reported → (Refusal → A) → A → A
 by asked which refused priced = once_asked asked refused (unless_not_finite which refused priced)
 
 -- the estimates
-abbrev made : Observed → Payoff → (ℕ → Float) → (ℕ → Float) → ℕ → Estimates
-made o payoff last lowest n =
-    estimates_from (tally_of payoff (λ p. underlying_of o (last p)) lowest n)
+abbrev made : Observed → Bool → Payoff → (ℕ → Float) → (ℕ → Float) → ℕ → Estimates
+made o mirrored payoff last lowest n =
+    estimates_of mirrored (paid_at o payoff last lowest) (underlying_at o last) n
 
 -- ---- a reading of what is made is made of the readings
 by_read :
@@ -58,19 +59,19 @@ by_other P (Ok _) (Some which) refused priced other r p = r _ (λ e. omega (arit
 by_other P (Err first) which refused priced other r p = r first (other first refl)
 
 module _
-    {A : Type 0} (o : Observed) (payoff : Payoff) (last lowest : ℕ → Float) (n : ℕ)
+    {A : Type 0} (o : Observed) (mirrored : Bool) (payoff : Payoff) (last lowest : ℕ → Float) (n : ℕ)
     (refused : Refusal → A) (priced : Estimates → A)
   where
     abbrev asked : Outcome
     asked = first_no (last_questions o last n)
 
     abbrev estimates : Estimates
-    estimates = made o payoff last lowest n
+    estimates = made o mirrored payoff last lowest n
 
     pub reported_read :
         {B : Type 0} (f : A → B)
-        → f (reported o payoff last lowest n refused priced)
-        ≡ reported o payoff last lowest n (λ r. f (refused r)) (λ e. f (priced e))
+        → f (reported o mirrored payoff last lowest n refused priced)
+        ≡ reported o mirrored payoff last lowest n (λ r. f (refused r)) (λ e. f (priced e))
     unfolding reported
     reported_read f = by_read f asked (not_finite estimates) refused (priced estimates)
 
@@ -78,7 +79,7 @@ module _
         (P :
         A → Type 0) → ((r : Refusal) → Other r → P (refused r)) → ((e : Estimates)
         → P (priced e))
-        → P (reported o payoff last lowest n refused priced)
+        → P (reported o mirrored payoff last lowest n refused priced)
     unfolding reported
     reported_other P r p =
         by_other P asked (not_finite estimates) refused (priced estimates)
@@ -103,14 +104,16 @@ questions_same VixSquared f g n same =
     each_same (squared_questions f) (squared_questions g) n (λ p l h. rw (same p l h))
 
 pub reported_same :
-    {A : Type 0} (o : Observed) (payoff : Payoff) (f g lowest : ℕ → Float) (n : ℕ)
-    → SameUpTo f g n → (refused : Refusal → A) (priced : Estimates → A)
-    → reported o payoff f lowest n refused priced ≡ reported o payoff g lowest n refused priced
+    {A : Type 0} (o : Observed) (mirrored : Bool) (payoff : Payoff) (f g lowest : ℕ → Float)
+    (n : ℕ) → SameUpTo f g n → (refused : Refusal → A) (priced : Estimates → A)
+    → reported o mirrored payoff f lowest n refused priced
+    ≡ reported o mirrored payoff g lowest n refused priced
 unfolding reported
-reported_same o payoff f g lowest n same refused priced =
-    let shown : (ℕ → Float) → ℕ → Float = λ h p. underlying_of o (h p) in
-    let of-f : Estimates = made o payoff f lowest n in
+reported_same o mirrored payoff f g lowest n same refused priced =
+    let of-f : Estimates = made o mirrored payoff f lowest n in
     ap (λ (q : List Question). by (first_no q) (not_finite of-f) refused (priced of-f))
     (questions_same o f g n same)
-    ∙ ap (λ (t : Tally). by (first_no (last_questions o g n)) (not_finite (estimates_from t)) refused (priced (estimates_from t)))
-    (tally_same payoff (shown f) (shown g) lowest n (λ p l h. ap (underlying_of o) (same p l h)))
+    ∙ ap (λ (e : Estimates). by (first_no (last_questions o g n)) (not_finite e) refused (priced e))
+    (estimates_same mirrored (paid_at o payoff f lowest) (paid_at o payoff g lowest) (underlying_at o f) (underlying_at o g) n
+    (λ p l h. ap (λ (x : Float). payoff_of payoff (underlying_of o x) (lowest p)) (same p l h))
+    (λ p l h. ap (underlying_of o) (same p l h)))

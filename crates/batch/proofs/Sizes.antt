@@ -11,13 +11,12 @@ use lib.ListN.{length}
 use lib.Ieee.{Float}
 use borrow.Author.Tests.{leb-true, eqb-true}
 use Rattle.refusal.specs.declared.Refusal.TheVariants.{Paths, Draws, Lengths}
-use Rattle.refusal.specs.Questions.{Question, ask, first_no, passed}
+use Rattle.refusal.specs.Questions.{ask, first_no, passed}
 use Rattle.refusal.proofs.Laws.{passed_head, passed_tail, passed_first, passed_then}
-use Rattle.model.specs.declared.TimeGrid.{TimeGrid}
 use Rattle.walks.specs.declared.Batch.{Batch as Handed}
 use Rattle.walks.specs.Batch.{draws_needed}
 use Rattle.paths.specs.Inner.Handed.{Prepared}
-use Rattle.batch.specs.Questions.{paths_pass, path_questions, table_questions, batch_questions}
+use Rattle.batch.specs.Questions.{paths_pass, path_questions, batch_questions}
 use Rattle.batch.specs.Inner.Handed.{Ready}
 
 -- paths × steps, or paths × segments
@@ -46,26 +45,14 @@ module _ (mirrored : Bool) (paths : ℕ) (pass : paths_pass mirrored paths ≡ t
   pub paths_even : mirrored ≡ true → paths % 2 ≡ 0
   paths_even = even mirrored paths both.1
 
--- ---- 19 and 20
-module _ (sched : TimeGrid) (mirrored : Bool) (paths drawn : ℕ) where
-  abbrev enough : ℕ → Question
-  enough needed = ask Draws (eqb drawn needed)
+-- ---- 19 and 28
+pub paths_passed :
+    (mirrored : Bool) (paths : ℕ) → first_no (path_questions mirrored paths) ≡ passed
+    → paths_pass mirrored paths ≡ true
+unfolding path_questions
+paths_passed mirrored paths h = passed_head (ask Paths (paths_pass mirrored paths)) _ h
 
-  pub paths_passed :
-      first_no (path_questions sched mirrored paths drawn) ≡ passed → paths_pass mirrored paths ≡ true
-  unfolding path_questions
-  paths_passed h = passed_head (ask Paths (paths_pass mirrored paths)) _ h
-
-  pub draws_passed :
-      first_no (path_questions sched mirrored paths drawn) ≡ passed
-      → drawn ≡ draws_needed mirrored paths sched.total
-  unfolding path_questions
-  draws_passed h =
-      let first = ask Paths (paths_pass mirrored paths) in
-      let second = enough (draws_needed mirrored paths sched.total) in
-      eqb-true _ _ (passed_head second [] (passed_tail first (second ∷ []) h))
-
--- ---- 19 to 21
+-- ---- 19, 28, 20 and 21
 pub prepared :
     (b : Handed) (draws lent : List Float) → Ready b
     → first_no
@@ -74,16 +61,18 @@ pub prepared :
     → Prepared b draws lent
 prepared b draws lent ready all =
     let grid = b.simulation.grid in
-    let before = path_questions grid b.mirrored b.paths (length draws) in
-    let rows = table_questions grid b.paths (length lent) in
-    let first = passed_first before rows all in
-    let pass = paths_passed grid b.mirrored b.paths (length draws) first in
+    let drawn = ask Draws (eqb (length draws) (draws_needed b.mirrored b.paths grid.total)) in
+    let rows = ask Lengths (eqb (length lent) (b.paths * grid.count)) in
+    let before = path_questions b.mirrored b.paths in
+    let lengths = drawn ∷ rows ∷ [] in
+    let pass = paths_passed b.mirrored b.paths (passed_first before lengths all) in
+    let rest = passed_then before lengths all in
     record {
       admitted = ready.admitted;
       form = ready.form;
       laid = ready.laid;
       most = paths_most b.mirrored b.paths pass;
       pairs = paths_even b.mirrored b.paths pass;
-      drawn = draws_passed grid b.mirrored b.paths (length draws) first;
-      rows = eqb-true _ _ (passed_head (ask Lengths (eqb (length lent) (b.paths * grid.count))) [] (passed_then before rows all));
+      drawn = eqb-true _ _ (passed_head drawn (rows ∷ []) rest);
+      rows = eqb-true _ _ (passed_head rows [] (passed_tail drawn (rows ∷ []) rest));
     }

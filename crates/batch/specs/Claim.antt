@@ -160,7 +160,7 @@ unfoldable pub report_of : Batch → Payoff → BatchAnswer
 unfolding state_after reported report_with
 report_of b payoff =
     let total = b.simulation.grid.total in
-    reported b.observed payoff (λ p. b.observe (state_of b p total))
+    reported b.observed b.mirrored payoff (λ p. b.observe (state_of b p total))
     (λ p. (state_of b p total).lowest) b.paths (refused_answer b.observed (b.paths * total))
     (λ estimates. priced_answer b.observed (report_with b estimates))
 

@@ -4,7 +4,8 @@ use Rattle.std.specs.Prelude.{Bool, true, false, not, ◌&&◌, ◌||◌, List, 
 use Rattle.std.specs.Prelude.{ℕ, ◌*◌, ◌%◌, eqb, leb}
 use Rattle.decimal.specs.declared.Decimal.{Decimal}
 use Rattle.decimal.specs.Decimal.{is_negative, is_positive, value}
-use Rattle.refusal.specs.declared.Refusal.TheVariants.{Strike, Barrier, Paths, Draws, Lengths}
+use Rattle.refusal.specs.declared.Refusal.TheVariants.{Strike, Barrier, Paths, Pairs}
+use Rattle.refusal.specs.declared.Refusal.TheVariants.{Draws, Lengths}
 use Rattle.refusal.specs.Questions.{Question, ask}
 use Rattle.model.specs.declared.TimeGrid.{TimeGrid}
 use Rattle.model.specs.Questions.{scale_question}
@@ -39,19 +40,25 @@ down_and_out_at strike barrier = DownAndOut (value strike) (value barrier)
 unfoldable pub paths_pass : Bool → ℕ → Bool
 paths_pass mirrored paths = leb 2 paths && leb paths 65536 && (not mirrored || eqb (paths % 2) 0)
 
--- Rule 14.10: 19, and 20, exactly the draws needed
-unfoldable pub path_questions : TimeGrid → Bool → ℕ → ℕ → List Question
-unfolding paths_pass
-path_questions grid mirrored paths drawn =
-    ask Paths (paths_pass mirrored paths)
-    ∷ ask Draws (eqb drawn (draws_needed mirrored paths grid.total))
-    ∷ []
+-- Rule 14.10: 28, of a mirrored batch: one pair alone has no error
+abbrev pub pair_questions : Bool → ℕ → List Question
+pair_questions true paths = ask Pairs (leb 4 paths) ∷ []
+pair_questions false paths = []
 
--- Rule 14.10: 21, a row a path and a column a segment
-abbrev pub table_questions : TimeGrid → ℕ → ℕ → List Question
-table_questions grid paths lent = ask Lengths (eqb lent (paths * grid.count)) ∷ []
+-- Rule 14.10: 19, then 28
+unfoldable pub path_questions : Bool → ℕ → List Question
+unfolding paths_pass
+path_questions mirrored paths =
+    ask Paths (paths_pass mirrored paths) ∷ pair_questions mirrored paths
+
+-- Rule 14.10: 20, exactly the draws needed; 21, a table of a row a path and a column a segment
+abbrev pub length_questions : TimeGrid → Bool → ℕ → ℕ → ℕ → List Question
+length_questions grid mirrored paths drawn lent =
+    ask Draws (eqb drawn (draws_needed mirrored paths grid.total))
+    ∷ ask Lengths (eqb lent (paths * grid.count))
+    ∷ []
 
 -- Rule 14.10: with so many draws and a table of so many doubles lent
 abbrev pub batch_questions : TimeGrid → Bool → ℕ → ℕ → ℕ → List Question
 batch_questions grid mirrored paths drawn lent =
-    path_questions grid mirrored paths drawn ++ table_questions grid paths lent
+    path_questions mirrored paths ++ length_questions grid mirrored paths drawn lent

@@ -1,5 +1,5 @@
 -- What is made of the paths of a batch: its report, or a refusal. Definitions only.
-use Rattle.std.specs.Prelude.{List, [], ◌∷◌, ℕ, ◌*◌, Float}
+use Rattle.std.specs.Prelude.{Bool, List, [], ◌∷◌, ℕ, ◌*◌, Float}
 use Rattle.std.specs.Prelude.{Some, None, Result, Ok, Err}
 use Rattle.std.specs.Prelude.{Option as Optional}
 use Rattle.std.proofs.Math.Option.{Option, none, some}
@@ -16,8 +16,8 @@ use Rattle.walks.specs.declared.Observed.TheVariants.{Spot, VixSquared}
 use Rattle.walks.specs.Batch.{Batch, walk_of, non_positive_paths, observation}
 use Rattle.estimates.specs.declared.Estimates.{Estimates}
 use Rattle.estimates.specs.declared.Payoff.{Payoff}
-use Rattle.estimates.specs.Payoff.{underlying_of}
-use Rattle.estimates.specs.Moments.{tally_of, estimates_from, not_finite}
+use Rattle.estimates.specs.Payoff.{payoff_of, underlying_of}
+use Rattle.estimates.specs.Moments.{estimates_of, not_finite}
 use Rattle.paths.specs.Run.{RunStop, run_stop, steps_at, refusal_at}
 use Rattle.paths.specs.declared.Refused.{Refused}
 use Rattle.batch.specs.declared.Report.{Report}
@@ -43,15 +43,24 @@ abbrev pub unless_not_finite : {A : Type 0} → Optional Reported → (Refusal �
 unless_not_finite None refused answered = answered
 unless_not_finite (Some which) refused answered = refused (Estimate which)
 
+-- Rule 10.4: what each path pays on, `last p` being the last observation of path p
+abbrev pub underlying_at : Observed → (ℕ → Float) → ℕ → Float
+underlying_at observed last p = underlying_of observed (last p)
+
+-- Rule 10.5: what each path pays, `lowest p` being its lowest spot
+abbrev pub paid_at : Observed → Payoff → (ℕ → Float) → (ℕ → Float) → ℕ → Float
+paid_at observed payoff last lowest p =
+    payoff_of payoff (underlying_at observed last p) (lowest p)
+
 -- Rule 10.7: `priced` of the estimates, or `refused` of the first No of 23 to 25; `last p` is the
 -- last observation of path p, and `lowest p` its lowest spot
 unfoldable pub reported :
-    {A : Type 0} → Observed → Payoff → (ℕ → Float) → (ℕ → Float) → ℕ → (Refusal → A)
+    {A : Type 0} → Observed → Bool → Payoff → (ℕ → Float) → (ℕ → Float) → ℕ → (Refusal → A)
     → (Estimates → A) → A
-unfolding first_no each tally_of estimates_from not_finite
-reported observed payoff last lowest paths refused priced =
-    let tally = tally_of payoff (λ p. underlying_of observed (last p)) lowest paths in
-    let made = estimates_from tally in
+unfolding first_no each payoff_of estimates_of not_finite
+reported observed mirrored payoff last lowest paths refused priced =
+    let paid = paid_at observed payoff last lowest in
+    let made = estimates_of mirrored paid (underlying_at observed last) paths in
     once_asked (first_no (last_questions observed last paths)) refused
     (unless_not_finite (not_finite made) refused (priced made))
 
@@ -80,7 +89,7 @@ priced_at b payoff (some s) = refused_after (steps_at b s) (refusal_at b s)
 priced_at b payoff none =
     let grid = b.simulation.grid in
     let steps = b.paths * grid.total in
-    reported b.observed payoff (λ p. observation b p grid.count)
+    reported b.observed b.mirrored payoff (λ p. observation b p grid.count)
     (λ p. (state_after (walk_of b p) grid.total).lowest) b.paths (refused_after steps)
     (λ estimates. Ok (report_with b estimates))
 

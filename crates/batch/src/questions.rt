@@ -1,12 +1,13 @@
 // What is asked of a batch before 22, past its model: 18 and 1 of the strike, 27 and 1 of the
-// barrier, 19 of the paths, 20 of the draws and 21 of the lent table.
+// barrier, 19 and 28 of the paths, 20 of the draws and 21 of the lent table.
 ghost use Rattle.std.specs.Prelude.{◌≡◌, ◌≤◌};
 ghost use Rattle.refusal.specs.Questions.{first_no};
 ghost use Rattle.model.specs.Inner.Laid.{Laid};
 ghost use Rattle.walks.specs.Batch.{draws_needed};
 ghost use Rattle.batch.specs.Questions.{strike_questions, barrier_questions};
 ghost use Rattle.batch.specs.Questions.{style_of, vanilla_at, down_and_out_at};
-ghost use Rattle.batch.specs.Questions.{paths_pass, path_questions, batch_questions};
+ghost use Rattle.batch.specs.Questions.{paths_pass, pair_questions, path_questions};
+ghost use Rattle.batch.specs.Questions.{batch_questions};
 
 use decimal::Decimal;
 use estimates::{Payoff, Style};
@@ -71,18 +72,28 @@ fn draws_needed(mirrored: bool, paths: usize, total: usize) -> usize
     sources * total
 }
 
-// Questions 19 and 20. No product is taken before the paths are known to be few, so none wraps.
-#[tactic(auto, unfolding(refusal::specs::Questions::first_no, crate::specs::Questions::path_questions))]
-fn path_questions(grid: TimeGrid, mirrored: bool, paths: usize, drawn: usize) -> Outcome
-    requires { grid.total ≤ 4096 }
-    ensures { result ≡ first_no (path_questions grid mirrored paths drawn) }
+// Question 28, of a mirrored batch alone.
+#[tactic(auto, unfolding(refusal::specs::Questions::first_no))]
+fn pair_questions(mirrored: bool, paths: usize) -> Outcome
+    ensures { result ≡ first_no (pair_questions mirrored paths) }
 {
-    refusal::ensure(paths_pass(mirrored, paths), Refusal::Paths)?;
-    let needed = draws_needed(mirrored, paths, grid.total);
-    refusal::ensure(drawn == needed, Refusal::Draws)
+    if !mirrored {
+        return Ok(());
+    }
+    refusal::ensure(4 <= paths, Refusal::Pairs)
 }
 
-// Questions 19 to 21, with so many draws and a table of so many doubles lent.
+// Questions 19 and 28.
+#[tactic(auto, unfolding(refusal::specs::Questions::first_no, crate::specs::Questions::path_questions))]
+fn path_questions(mirrored: bool, paths: usize) -> Outcome
+    ensures { result ≡ first_no (path_questions mirrored paths) }
+{
+    refusal::ensure(paths_pass(mirrored, paths), Refusal::Paths)?;
+    pair_questions(mirrored, paths)
+}
+
+// Questions 19, 28, 20 and 21, with so many draws and a table of so many doubles lent. No product
+// is taken before the paths are known to be few, so none wraps.
 #[tactic(auto, using(refusal::proofs::Laws::append), unfolding(refusal::specs::Questions::first_no))]
 pub fn batch_questions(
     grid: TimeGrid,
@@ -94,7 +105,9 @@ pub fn batch_questions(
     requires { Laid grid }
     ensures { result ≡ first_no (batch_questions grid mirrored paths drawn lent) }
 {
-    path_questions(grid, mirrored, paths, drawn)?;
+    path_questions(mirrored, paths)?;
+    let needed = draws_needed(mirrored, paths, grid.total);
+    refusal::ensure(drawn == needed, Refusal::Draws)?;
     let rows = paths * grid.count;
     refusal::ensure(lent == rows, Refusal::Lengths)
 }

@@ -1,2 +1,3 @@
 pub mod Payoff
 pub mod Moments
+pub mod Inner

@@ -27,11 +27,27 @@ pub struct Moments {
     pub squared_deviations: f64,
 }
 
-// The moments of what the paths so far pay, and of what they pay on: the spot or the index.
+// What a path pays, and what it pays on: the spot or the index. Or the averages of two paths.
+#[derive(Clone, Copy)]
+pub struct Sample {
+    pub paid: f64,
+    pub underlying: f64,
+}
+
+// What is a sample: each path, or each mirrored pair, whose first path may wait for its second.
+#[derive(Clone, Copy)]
+pub enum Sampling {
+    Paths,
+    Pairs,
+    PairBegun(Sample),
+}
+
+// The moments of the samples so far, of what they pay and of what they pay on.
 #[derive(Clone, Copy)]
 pub struct Tally {
     pub payoffs: Moments,
     pub underlyings: Moments,
+    pub sampling: Sampling,
 }
 
 // A mean and its standard error.

@@ -8,6 +8,7 @@ use Rattle.numeric.specs.Double.{plus_zero}
 use Rattle.decimal.specs.Decimal.{value, is_negative, is_positive, scale_fits}
 use Rattle.refusal.specs.declared.Quantity.{Quantity}
 use Rattle.refusal.specs.declared.Quantity.TheVariants as quantity
+use Rattle.refusal.specs.declared.Refusal.TheVariants.{Pairs}
 use Rattle.refusal.specs.Questions.{Outcome, passed, first_no, each}
 use Rattle.refusal.specs.Refusal.{no_place}
 use Rattle.model.specs.Kernel.{in_range}
@@ -30,6 +31,9 @@ use Rattle.figures.specs.Given.{model, calm}
 abbrev pub half : Float
 half = bits 0x3FE0000000000000
 
+abbrev pub quarter : Float
+quarter = bits 0x3FD0000000000000
+
 abbrev pub minus_half : Float
 minus_half = bits 0xBFE0000000000000
 
@@ -41,20 +45,20 @@ minus_one = bits 0xBFF0000000000000
 
 -- that of P9
 abbrev pub nine : VanillaInputs
-nine = call_at100 one_step false (half ∷ minus_one ∷ [])
+nine = call_at100 one_step false 2 (half ∷ minus_one ∷ [])
 
 -- that of P10, whose second draw is infinite
 abbrev pub ten : VanillaInputs
-ten = call_at100 one_step false (half ∷ inf false ∷ [])
+ten = call_at100 one_step false 2 (half ∷ inf false ∷ [])
 
 -- with another second draw, the first one again
 abbrev pub level : VanillaInputs
-level = call_at100 one_step false (half ∷ half ∷ [])
+level = call_at100 one_step false 2 (half ∷ half ∷ [])
 
 -- with paths of two steps
 abbrev pub twice : VanillaInputs
 twice =
-    call_at100 (steps 2) false
+    call_at100 (steps 2) false 2
     (half ∷ half ∷ half ∷ half ∷ [])
 
 -- a put at 200 that vanishes at 60: within their one segment both paths fall from 100 to 50, and
@@ -69,9 +73,13 @@ touched =
     })
     (minus_half ∷ plus_one ∷ minus_half ∷ plus_one ∷ [])
 
--- mirrored: path 2 has the draw of path 1 negated
+-- mirrored: path 2 has the draw of path 1 negated, and path 4 that of path 3
 abbrev pub mirrored : VanillaInputs
-mirrored = call_at100 one_step true (half ∷ [])
+mirrored = call_at100 one_step true 4 (half ∷ quarter ∷ [])
+
+-- one pair alone
+abbrev pub one_pair : VanillaInputs
+one_pair = call_at100 one_step true 2 (half ∷ [])
 
 -- a future on the VIX, with a = 0 and the window of P12
 abbrev pub vix : VixBatchInputs
@@ -88,13 +96,17 @@ vix =
 abbrev pub lent : List Float
 lent = plus_zero ∷ plus_zero ∷ []
 
+abbrev pub lent_four : List Float
+lent_four = plus_zero ∷ plus_zero ∷ plus_zero ∷ plus_zero ∷ []
+
 -- ---- each passes every question before 22
 
+-- with a row a path
 unfoldable pub vanilla_asked : VanillaInputs → Outcome
 unfolding
     vanilla_questions first_no each in_range le range_questions scale_questions steps_through
     is_negative is_positive scale_fits value round of_bits
-vanilla_asked i = first_no (vanilla_questions i (length lent))
+vanilla_asked i = first_no (vanilla_questions i i.order.paths)
 
 -- with a workspace of 80 doubles
 unfoldable pub vix_asked : VixBatchInputs → Outcome
@@ -127,6 +139,11 @@ pub mirrored_admitted : vanilla_asked mirrored ≡ passed
 unfolding vanilla_asked
 mirrored_admitted = refl
 
+-- one pair alone does not
+pub one_pair_refused : vanilla_asked one_pair ≡ Err Pairs
+unfolding vanilla_asked
+one_pair_refused = refl
+
 pub vix_admitted : vix_asked vix ≡ passed
 unfolding vix_asked
 vix_admitted = refl
@@ -136,15 +153,15 @@ vix_admitted = refl
 abbrev pub report : VanillaInputs → BatchAnswer
 report i = report_of (vanilla_batch i) (vanilla_payoff i)
 
--- a price over two paths of one step
-abbrev pub priced_at : Float → Float → Float → Float → List ℕ → BatchAnswer
-priced_at price price_error spot spot_error counts =
+-- a price
+abbrev pub priced_at : Float → Float → Float → Float → List ℕ → ℕ → BatchAnswer
+priced_at price price_error spot spot_error counts steps =
     record {
       number = 0;
       place = no_place;
       doubles = price ∷ price_error ∷ spot ∷ spot_error ∷ [];
       counts = counts;
-      steps = 2;
+      steps = steps;
     }
 
 -- P9: price 25 and error 25, spot 75 and error 75, one path non-positive, 2 steps
@@ -152,7 +169,7 @@ abbrev pub price_of_nine : BatchAnswer
 price_of_nine =
     priced_at (value (decimal 25 0)) (value (decimal 25 0)) (value (decimal 75 0))
     (value (decimal 75 0))
-    (2 ∷ 1 ∷ [])
+    (2 ∷ 1 ∷ []) 2
 
 pub nine_report : report nine ≡ price_of_nine
 unfolding report_of start_of grid_of value round of_bits
@@ -161,9 +178,19 @@ nine_report = refl
 -- both spots are 150
 pub level_report :
     report level
-    ≡ priced_at (value (decimal 50 0)) plus_zero (value (decimal 150 0)) plus_zero (2 ∷ 0 ∷ [])
+    ≡ priced_at (value (decimal 50 0)) plus_zero (value (decimal 150 0)) plus_zero (2 ∷ 0 ∷ []) 2
 unfolding report_of start_of grid_of value round of_bits
 level_report = refl
+
+-- spots 150, 50, 125 and 75: the pairs pay 25 and 12.5 in the mean, and both have the spot 100
+abbrev pub price_of_mirrored : BatchAnswer
+price_of_mirrored =
+    priced_at (value (decimal 1875 2)) (value (decimal 625 2)) (value (decimal 100 0)) plus_zero
+    (4 ∷ 0 ∷ []) 4
+
+pub mirrored_report : report mirrored ≡ price_of_mirrored
+unfolding report_of start_of grid_of value round of_bits
+mirrored_report = refl
 
 -- both paths touch the barrier, path 1 ends above it, as path 2 does, and the put pays nothing
 pub touched_ends_above :

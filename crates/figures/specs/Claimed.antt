@@ -20,7 +20,8 @@ use Rattle.vanilla.specs.Call.{vanilla_batch, vanilla_payoff}
 use Rattle.vix_batch.specs.Call.{vix_batch, payoff_for}
 use Rattle.vix_value.specs.Call.{vix_call}
 use Rattle.figures.specs.Given.{decimal, kernel, with_a, model, calm, one_step, given_of}
-use Rattle.figures.specs.Admitted.{nine, mirrored, vix, lent, price_of_nine, priced_at}
+use Rattle.figures.specs.Admitted.{nine, mirrored, vix, lent, lent_four, price_of_nine}
+use Rattle.figures.specs.Admitted.{price_of_mirrored, priced_at}
 
 -- ---- what the questions leave of the model
 
@@ -90,21 +91,25 @@ unfolding start_of grid_of table_after priced_run value round of_bits
 nine_claimed =
     batch_claim (vanilla_batch nine) (vanilla_payoff nine) one_laid model_admitted lent refl
 
--- spots 150 and 50
+-- spots 150, 50, 125 and 75
 pub mirrored_claimed :
-    BatchClaim (vanilla_batch mirrored) (vanilla_payoff mirrored) lent
-    (value (decimal 150 0) ∷ value (decimal 50 0) ∷ [])
-    (priced_at (value (decimal 25 0)) (value (decimal 25 0)) (value (decimal 100 0))
-    (value (decimal 50 0)) (2 ∷ 0 ∷ []))
+    BatchClaim (vanilla_batch mirrored) (vanilla_payoff mirrored) lent_four
+    (value (decimal 150 0)
+    ∷ value (decimal 50 0)
+    ∷ value (decimal 125 0)
+    ∷ value (decimal 75 0)
+    ∷ [])
+    price_of_mirrored
 unfolding start_of grid_of table_after priced_run value round of_bits
 mirrored_claimed =
-    batch_claim (vanilla_batch mirrored) (vanilla_payoff mirrored) one_laid model_admitted lent refl
+    batch_claim (vanilla_batch mirrored) (vanilla_payoff mirrored) one_laid model_admitted lent_four
+    refl
 
 -- VIX squared 40000 and index 200, on both paths
 pub vix_claimed :
     BatchClaim (vix_batch vix) (payoff_for vix.order.payoff) lent
     (value (decimal 40000 0) ∷ value (decimal 40000 0) ∷ [])
-    (priced_at (value (decimal 200 0)) plus_zero (value (decimal 200 0)) plus_zero (2 ∷ []))
+    (priced_at (value (decimal 200 0)) plus_zero (value (decimal 200 0)) plus_zero (2 ∷ []) 2)
 unfolding start_of grid_of vix_call table_after priced_run value round of_bits
 vix_claimed =
     batch_claim (vix_batch vix) (payoff_for vix.order.payoff) one_laid calm_admitted lent refl

@@ -66,9 +66,9 @@ one_step = steps 1
 abbrev pub given_of : Model → Schedule → Given
 given_of model schedule = given weights discounts model schedule
 
--- a call at 100 over two paths
-abbrev pub call_at100 : Schedule → Bool → List Float → VanillaInputs
-call_at100 schedule mirrored draws =
+-- a call at 100
+abbrev pub call_at100 : Schedule → Bool → ℕ → List Float → VanillaInputs
+call_at100 schedule mirrored paths draws =
     vanilla_inputs (given_of model schedule)
-    (record { terms = Vanilla Call (decimal 100 0); mirrored = mirrored; paths = 2 })
+    (record { terms = Vanilla Call (decimal 100 0); mirrored = mirrored; paths = paths })
     draws

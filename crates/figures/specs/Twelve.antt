@@ -67,7 +67,7 @@ stepped draw =
 -- a call at 100 over two paths of one step
 abbrev pub priced : List Float → Figure
 priced draws =
-    let i = call_at100 one_step false draws in
+    let i = call_at100 one_step false 2 draws in
     let asked = first_no (vanilla_questions i (length (lent 2))) in
     let b = vanilla_batch i in
     let a = answer_of b (priced_once_asked asked b (vanilla_payoff i)) in

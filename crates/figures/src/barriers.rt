@@ -38,13 +38,13 @@ fn one_step(barrier: u64, price: f64, error: f64) -> bool {
         && answer.steps == 2
 }
 
-// Whether the draw 0.5 and its mirror image, with the spots 100, 150 and 100, 50, give this price
-// and error.
+// Whether the draws 0.5 and 0.25, with their mirror images, give this price and error: the spots of
+// the one pair are 150 and 50, of the other 125 and 75.
 fn mirrored(barrier: u64, price: f64, error: f64) -> bool {
     let terms = at_barrier(whole(barrier));
-    let answer = batch(1, terms, true, &[0.5], &mut [0.0; 2]);
+    let answer = batch(1, terms, true, &[0.5, 0.25], &mut [0.0; 4]);
     answer.number == 0
-        && same(&estimates(answer), &[price, error, 100.0, 50.0])
+        && same(&estimates(answer), &[price, error, 100.0, 0.0])
         && answer.non_positive == 0
 }
 
@@ -101,12 +101,12 @@ pub(crate) fn figures() -> [Figure; 11] {
             is_plain(49, &FOUR, &mut [0.0; 4]),
         ),
         Figure::new(
-            "draw 0.5 mirrored, put at 200, barrier 60: price 25, error 25",
-            mirrored(60, 25.0, 25.0),
+            "draws 0.5 and 0.25 mirrored, put at 200, barrier 60: price 62.5, error 37.5",
+            mirrored(60, 62.5, 37.5),
         ),
         Figure::new(
-            "draw 0.5 mirrored, put at 200, barrier 49: price 100, error 50",
-            mirrored(49, 100.0, 50.0),
+            "draws 0.5 and 0.25 mirrored, put at 200, barrier 49: price 100, error 0",
+            mirrored(49, 100.0, 0.0),
         ),
         Figure::new("barrier 0: 27", is_refused(whole(0), 27)),
         Figure::new("barrier of scale 29: 1", is_refused(scaled(1, 29), 1)),

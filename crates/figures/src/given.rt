@@ -59,9 +59,9 @@ pub(crate) fn given(schedule: Schedule) -> Given<'static> {
     }
 }
 
-// A batch with a row for each observation, over so many steps.
-pub(crate) fn batch(
-    steps: u32,
+// A batch with a path for each observation, over one segment.
+pub(crate) fn batch_of(
+    given: &Given,
     terms: Terms,
     mirrored: bool,
     draws: &[f64],
@@ -73,5 +73,16 @@ pub(crate) fn batch(
         mirrored,
         paths,
     };
-    qrh::qrh_vanilla(&given(segment(steps)), order, draws, observations)
+    qrh::qrh_vanilla(given, order, draws, observations)
+}
+
+// The same of the model, over so many steps.
+pub(crate) fn batch(
+    steps: u32,
+    terms: Terms,
+    mirrored: bool,
+    draws: &[f64],
+    observations: &mut [f64],
+) -> Estimate {
+    batch_of(&given(segment(steps)), terms, mirrored, draws, observations)
 }

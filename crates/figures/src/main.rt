@@ -1,4 +1,4 @@
-// Runs the checked figures (rules 19.1 to 19.3), and compares each with what it should be.
+// Runs the checked figures (rules 19.1 to 19.4), and compares each with what it should be.
 #![tactic(auto)]
 
 ghost use Rattle.std.specs.Prelude.{◌≤◌, length, IfOk};

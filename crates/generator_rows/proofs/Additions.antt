@@ -10,12 +10,12 @@ use lib.Dec.{eqb}
 use lib.ListN.{length, get_or, take, set}
 use lib.Seq.{get_or-take}
 use lib.Ieee.{Float, nan, neg}
-use Rattle.numeric.specs.Double.{plus, times, one, plus_zero}
+use Rattle.numeric.specs.Double.{plus, times, one, two, plus_zero}
 use Rattle.model.specs.declared.Kernel.{Kernel}
 use Rattle.model.specs.declared.Params.{Params}
 use Rattle.model.specs.Inner.InUse.{kernel_in_use}
 use Rattle.generator_rows.specs.State.{dimension, pair_at}
-use Rattle.generator_rows.specs.Rows.{weight, discount, two, mean_coefficient, pair_coefficient}
+use Rattle.generator_rows.specs.Rows.{weight, discount, mean_coefficient, pair_coefficient}
 use Rattle.generator_rows.specs.Rows.{mean_reversion, mean_entry, mean_row, drift_entry}
 use Rattle.generator_rows.specs.Rows.{variance_row, pair_row}
 use Rattle.numeric.proofs.Tables.{take_is_tabulate}

@@ -4,10 +4,10 @@
 --   M_ij' = -(gamma_i + gamma_j) M_ij - lambda × sum over k of c_k (M_kj + M_ik) + eta² E[V]
 --   E[V]  = a × sum over k and l of c_k c_l M_kl - 2 a b × sum over k of c_k m_k + a b² + c
 -- and the integral w of E[V] follows w' = E[V]. Indices, rows and columns count from 0.
-use Rattle.std.specs.Prelude.{false, cond, List, [], ◌∷◌, ℕ, zero, suc, eqb, pos, get_or, Float}
-use Rattle.std.specs.Float.{nan, fin}
+use Rattle.std.specs.Prelude.{cond, List, [], ◌∷◌, ℕ, zero, suc, eqb, get_or, Float}
+use Rattle.std.specs.Float.{nan}
 use Rattle.std.specs.Float.Ieee.{add, mul, neg}
-use Rattle.numeric.specs.Double.{plus, times, one, plus_zero}
+use Rattle.numeric.specs.Double.{plus, times, one, two, plus_zero}
 use Rattle.numeric.specs.Table.{tabulate}
 use Rattle.model.specs.declared.Kernel.{Kernel}
 use Rattle.model.specs.declared.Params.{Params}
@@ -21,9 +21,6 @@ weight k i = get_or k.weights i nan
 
 abbrev pub discount : Kernel → ℕ → Float
 discount k i = get_or k.discounts i nan
-
-abbrev pub two : Float
-two = fin false 1 (pos 1)
 
 -- Rule 11.3: -2 × a × b × weight at a mean
 unfoldable pub mean_coefficient : Kernel → Params → ℕ → Float

@@ -31,6 +31,10 @@ over x y = div binary64 x y
 abbrev pub one : Float
 one = fin false 1 (pos 0)
 
+-- Rule 2.2: 2.0
+abbrev pub two : Float
+two = fin false 1 (pos 1)
+
 -- Rule 2.2: +0.0
 abbrev pub plus_zero : Float
 plus_zero = fin false 0 (pos 0)

@@ -26,7 +26,7 @@ use Rattle.model.proofs.Containment.{reached_next, reached_on, reached_behind, r
 use Rattle.model.proofs.Containment.{last_most}
 use Rattle.refusal.specs.declared.Refusal.TheVariants as refusal
 use Rattle.estimates.specs.declared.Payoff.{Payoff}
-use Rattle.estimates.specs.Moments.{tally_of}
+use Rattle.estimates.proofs.Tallying.{tally_none}
 use Rattle.paths.specs.declared.Walked.{Walked}
 use Rattle.walks.specs.declared.Observed.{Observed}
 use Rattle.walks.specs.Batch.{Batch, walk_of, non_positive_paths, observation}
@@ -185,9 +185,9 @@ entry_done b ok q n j k e l x =
 module _ {b : Batch} {payoff : Payoff} (ok : Laid b.simulation.grid) {lent : List Float} where
   -- the outer loop begins
   pub path_first :
-      length lent ≡ b.paths * b.simulation.grid.count → {w : Walked} → w ≡ nothing_walked
-      → Outer b payoff lent lent 0 w
-  unfolding run_stop non_positive_paths first_some tally_of
+      length lent ≡ b.paths * b.simulation.grid.count → {w : Walked}
+      → w ≡ nothing_walked b.mirrored → Outer b payoff lent lent 0 w
+  unfolding run_stop non_positive_paths first_some
   path_first g {w} e =
       record {
         most = omega arith;
@@ -198,7 +198,7 @@ module _ {b : Batch} {payoff : Payoff} (ok : Laid b.simulation.grid) {lent : Lis
               counted = sym (zero-mul b.simulation.grid.total);
               fallen = refl;
               few = omega arith;
-              tallied = refl;
+              tallied = sym (tally_none _ _ b.mirrored);
             });
         long = g;
         done = λ q j k l. absurd (omega arith);

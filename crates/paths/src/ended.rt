@@ -8,13 +8,13 @@ use walks::Observed;
 
 impl Walked {
     // No path has ended.
-    pub(crate) fn new() -> Walked
-        ensures { result ≡ nothing_walked }
+    pub(crate) fn new(mirrored: bool) -> Walked
+        ensures { result ≡ nothing_walked mirrored }
     {
         Walked {
             non_positive: 0,
             steps: 0,
-            tally: Tally::new(),
+            tally: Tally::new(mirrored),
         }
     }
 

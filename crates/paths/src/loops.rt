@@ -79,7 +79,7 @@ pub fn run_paths(
         mirrored: batch.mirrored,
         total: grid.total,
     };
-    let mut walked = Walked::new();
+    let mut walked = Walked::new(batch.mirrored);
     let mut ended = Ok(());
     let mut path = 0;
     let mut next_group = 0;

@@ -58,6 +58,7 @@ number_of (no.Squared NotPositive path) = 24
 number_of (no.Estimate reported) = 25
 number_of no.Matrix = 26
 number_of no.Barrier = 27
+number_of no.Pairs = 28
 
 -- Rule 14.2: no place is four zeros
 abbrev pub no_place : List ℕ
@@ -97,3 +98,4 @@ place_of no.Draws = no_place
 place_of no.Lengths = no_place
 place_of no.Matrix = no_place
 place_of no.Barrier = no_place
+place_of no.Pairs = no_place

@@ -79,6 +79,7 @@ pub enum Refusal {
     Estimate(Reported),
     Matrix,
     Barrier,
+    Pairs,
 }
 
 // What a list of questions comes to: each got a Yes, or the first No.
@@ -174,6 +175,7 @@ impl Refusal {
             Refusal::Estimate(_) => 25,
             Refusal::Matrix => 26,
             Refusal::Barrier => 27,
+            Refusal::Pairs => 28,
         }
     }
 
@@ -215,7 +217,8 @@ impl Refusal {
             | Refusal::Draws
             | Refusal::Lengths
             | Refusal::Matrix
-            | Refusal::Barrier => [0; 4],
+            | Refusal::Barrier
+            | Refusal::Pairs => [0; 4],
         }
     }
 }

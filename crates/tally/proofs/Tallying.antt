@@ -23,8 +23,10 @@ use Rattle.walks.proofs.Fallen.{fallen_lowest}
 use Rattle.estimates.specs.declared.Payoff.{Payoff}
 use Rattle.estimates.specs.declared.Tally.{Tally}
 use Rattle.estimates.specs.Payoff.{underlying_of}
-use Rattle.estimates.specs.Moments.{with_path, tally_of}
-use Rattle.tally.specs.Inner.Rows.{last_observation, with_rows, fallen_among, lowest_in, tally_in}
+use Rattle.estimates.specs.Inner.Tally.{with_path, tally_of}
+use Rattle.estimates.proofs.Tallying.{tally_next}
+use Rattle.tally.specs.Inner.Rows.{last_observation, with_rows, fallen_among, underlying_in}
+use Rattle.tally.specs.Inner.Rows.{lowest_in, paid_in, tally_in}
 
 -- no row, and one row more
 pub rows_none :
@@ -53,7 +55,7 @@ pub rows_tallied :
     → ((l : ℕ) → l < n → get_or lowest l nan ≡ lowest_in b (suc (path + l)))
     → with_rows t payoff b.observed rows b.simulation.grid.count lowest n
     ≡ tally_in b payoff (path + n)
-unfolding with_rows tally_of
+unfolding with_rows with_path tally_of
 rows_tallied b payoff path rows lowest zero before same low =
     before ∙ ap (tally_in b payoff) (sym (add-zero path))
 rows_tallied b payoff path rows lowest (suc n) before same low =
@@ -65,6 +67,7 @@ rows_tallied b payoff path rows lowest (suc n) before same low =
       low n (omega arith),
       next,
     )
+    (tally_next (paid_in b payoff) (underlying_in b) b.mirrored (path + n))
 
 -- ---- the non-positive paths
 

@@ -1,8 +1,6 @@
 -- A count that goes up with a flag. Assumes nothing.
-use mathlib.Core.Path.{◌≡◌, sym, ◌∙◌}
 use mathlib.Core.Bool.{Bool, true, false, cond}
-use Prim.Native.Nat.{ℕ, ◌+◌, ◌≤◌}
-use native.Mathlib.Nat.{add-zero}
+use Prim.Native.Nat.{◌≤◌}
 use native.Mathlib.Omega.{arith}
 
 pub one_most : (t : Bool) → cond t 1 0 ≤ 1

@@ -10,12 +10,13 @@ use Rattle.model.specs.TimeGrid.{last_step}
 use Rattle.model.specs.Walk.{Walk, state_after}
 use Rattle.walks.specs.declared.Observed.{Observed}
 
--- Rule 9.1: what the paths of a batch share, what is observed of them, and their draws: `draw p k`
--- is the draw of path p for its step k, both counted from 1
+-- Rule 9.1: what the paths of a batch share, what is observed of them, whether they are mirrored
+-- pairs, and their draws: `draw p k` is the draw of path p for its step k, both counted from 1
 pub record Batch : Type 0 where
   pub simulation : Simulation
   pub observed : Observed
   pub observe : State → Float
+  pub mirrored : Bool
   pub paths : ℕ
   pub draw : ℕ → ℕ → Float
 
@@ -52,6 +53,7 @@ batch_on simulation observed observe mirrored paths draws =
       simulation = simulation;
       observed = observed;
       observe = observe;
+      mirrored = mirrored;
       paths = paths;
       draw = draw_of mirrored draws simulation.grid.total;
     }

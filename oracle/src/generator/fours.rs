@@ -96,7 +96,11 @@ impl Source {
             1 => 10 + self.below(11),
             _ => 10 + self.below(31),
         } as usize;
-        let paths = if mirrored { paths + paths % 2 } else { paths };
+        let paths = if mirrored {
+            (paths + paths % 2).max(4)
+        } else {
+            paths
+        };
         let lists = if mirrored { paths / 2 } else { paths };
         let draws = lists * Self::total(&schedule);
         let mut batch = Batch {

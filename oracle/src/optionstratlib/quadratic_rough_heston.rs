@@ -16,6 +16,7 @@
 use super::decimal::decimal_to_f64;
 use super::error::QuadraticRoughHestonError;
 use super::stand_in::{Decimal, OptionStyle, Positive};
+use crate::samples;
 use std::num::NonZeroUsize;
 
 /// The fewest paths with a standard error.
@@ -682,12 +683,14 @@ impl Moments {
 /// - [`QuadraticRoughHestonError::BufferTooLarge`] when `paths` cannot be allocated.
 /// - [`QuadraticRoughHestonError::Decimal`] when `strike` has no `f64` value or a result does
 ///   not fit a `Decimal`.
-// Oracle: over a schedule of several segments and supplied draws, one list per path.
+// Oracle: over a schedule of several segments and supplied draws, one list per path; and of a
+// mirrored batch, which the library does not have, the average of each pair goes to the moments.
 pub fn price_vanilla_quadratic_rough_heston(
     params: &QuadraticRoughHestonParams,
     schedule: &Schedule,
     style: OptionStyle,
     strike: Positive,
+    mirrored: bool,
     paths: NonZeroUsize,
     draws: &[Vec<f64>],
 ) -> Result<QuadraticRoughHestonEstimate, QuadraticRoughHestonError> {
@@ -705,12 +708,13 @@ pub fn price_vanilla_quadratic_rough_heston(
     let non_positive_paths = runs.iter().filter(|run| run.non_positive).count();
     let mut payoff = Moments::default();
     let mut terminal = Moments::default();
-    for run in &runs {
-        payoff.add(match style {
-            OptionStyle::Call => (run.observed - raw_strike).max(0.0),
-            OptionStyle::Put => (raw_strike - run.observed).max(0.0),
-        });
-        terminal.add(run.observed);
+    let paid = |run: &PathRun<f64>| match style {
+        OptionStyle::Call => (run.observed - raw_strike).max(0.0),
+        OptionStyle::Put => (raw_strike - run.observed).max(0.0),
+    };
+    for sample in runs.chunks_exact(samples::size(mirrored)) {
+        payoff.add(samples::mean(sample, paid));
+        terminal.add(samples::mean(sample, |run| run.observed));
     }
 
     let (price, standard_error) = payoff.estimate()?;

@@ -9,7 +9,8 @@ use Rattle.walks.specs.declared.Batch.{Batch as Handed}
 use Rattle.walks.specs.Batch.{Batch}
 use Rattle.walks.specs.Inner.Handed.{observed_of, factors_read, batch_of}
 use Rattle.estimates.specs.declared.Payoff.{Payoff}
-use Rattle.estimates.specs.Moments.{estimates_from, not_finite}
+use Rattle.estimates.specs.Inner.Tally.{estimates_from}
+use Rattle.estimates.specs.Moments.{not_finite}
 use Rattle.paths.specs.declared.Walked.{Walked}
 use Rattle.paths.specs.Run.{table_after}
 use Rattle.tally.specs.Inner.Rows.{last_observation}

@@ -5,8 +5,7 @@ use native.Mathlib.Omega.{arith}
 use lib.Dec.{eqb}
 use lib.ListN.{length, length-set}
 use lib.Ieee.{of_bits}
-use Rattle.generator_rows.specs.Rows.{two}
-use Rattle.numeric.specs.Double.{one}
+use Rattle.numeric.specs.Double.{one, two}
 use Rattle.generator_rows.proofs.Places.{pair_after, pair_most}
 use Rattle.generator_rows.proofs.Appending.{pair_none, pair_store}
 use Rattle.generator_rows.proofs.Additions.{once, twice, pair_coefficient_lem}

@@ -25,6 +25,7 @@ side_batch k p start sched observation mirrored paths draws =
       simulation = record { kernel = kernel_in_use k; params = p; start = start; grid = grid_in_use sched };
       observed = observed_of observation;
       observe = observe_by observation;
+      mirrored = mirrored;
       paths = paths;
       draw = draw_of mirrored draws sched.total;
     }

@@ -1,5 +1,5 @@
 -- What the functions of the paths are handed and promise. Definitions only.
-use Rattle.std.specs.Prelude.{◌≡◌, true, List, ℕ, suc, length, get_or, Float}
+use Rattle.std.specs.Prelude.{◌≡◌, Bool, true, List, ℕ, suc, length, get_or, Float}
 use Rattle.std.specs.Prelude.{◌+◌, ◌*◌, ◌%◌, ◌≤◌, ◌<◌}
 use Rattle.std.specs.Prelude.{Result, Ok, Err, Some, None, Option as Optional}
 use Rattle.std.proofs.Math.Option.{Option, none, some}
@@ -15,7 +15,7 @@ use Rattle.walks.specs.declared.Observed.{Observed}
 use Rattle.walks.specs.Inner.Handed.{factors_read, batch_of}
 use Rattle.walks.specs.Batch.{Batch, walk_of, draws_needed, non_positive_paths, observation}
 use Rattle.estimates.specs.declared.Payoff.{Payoff}
-use Rattle.estimates.specs.Moments.{no_paths, tally_of}
+use Rattle.estimates.specs.Inner.Tally.{no_paths, tally_of}
 use Rattle.tally.specs.Inner.Rows.{with_rows, fallen_among, tally_in}
 use Rattle.paths.specs.declared.Walked.{Walked}
 use Rattle.paths.specs.declared.Refused.{Refused}
@@ -34,8 +34,8 @@ pub record Prepared (b : Handed) (draws observations : List Float) : Type 0 wher
 
 -- ---- what the paths that have ended come to
 
-abbrev pub nothing_walked : Walked
-nothing_walked = record { non_positive = 0; steps = 0; tally = no_paths }
+abbrev pub nothing_walked : Bool → Walked
+nothing_walked mirrored = record { non_positive = 0; steps = 0; tally = no_paths mirrored }
 
 -- with paths more, by the first rows and the lowest spots of these
 abbrev pub with_ended : Walked → Payoff → Observed → List Float → ℕ → List Float → Walked

@@ -8,8 +8,8 @@ use Rattle.walks.specs.declared.Observed.{Observed}
 use Rattle.walks.specs.Batch.{Batch, walk_of, observation}
 use Rattle.estimates.specs.declared.Payoff.{Payoff}
 use Rattle.estimates.specs.declared.Tally.{Tally}
-use Rattle.estimates.specs.Payoff.{underlying_of}
-use Rattle.estimates.specs.Moments.{with_path, tally_of}
+use Rattle.estimates.specs.Payoff.{payoff_of, underlying_of}
+use Rattle.estimates.specs.Inner.Tally.{with_path, tally_of}
 
 -- the last observation of row p in a table of `count` columns
 abbrev pub last_observation : List Float → ℕ → ℕ → Float
@@ -36,6 +36,10 @@ underlying_in b p = underlying_of b.observed (observation b p b.simulation.grid.
 abbrev pub lowest_in : Batch → ℕ → Float
 lowest_in b p = (state_after (walk_of b p) b.simulation.grid.total).lowest
 
+-- what it pays
+abbrev pub paid_in : Batch → Payoff → ℕ → Float
+paid_in b payoff p = payoff_of payoff (underlying_in b p) (lowest_in b p)
+
 -- the tally of the first n paths
 abbrev pub tally_in : Batch → Payoff → ℕ → Tally
-tally_in b payoff n = tally_of payoff (underlying_in b) (lowest_in b) n
+tally_in b payoff n = tally_of b.mirrored (paid_in b payoff) (underlying_in b) n
