@@ -1,5 +1,5 @@
--- How many paths, draws and observations a batch may have: what questions 19 to 21 leave. Assumes
--- nothing.
+-- How many paths, draws and observations a batch may have: what questions 19, 28, 20 and 21 leave.
+-- Assumes nothing.
 use mathlib.Core.Path.{◌≡◌}
 use mathlib.Core.Bool.{Bool, true, false, not, ◌&&◌, ◌||◌, and-eq-true_iff}
 use mathlib.Core.List.{List, [], ◌∷◌}

@@ -100,7 +100,7 @@ fn price_admitted(batch: &Batch, payoff: Payoff, draws: &[f64], observations: &m
     priced_from(walked, batch, observations)
 }
 
-// Questions 19 to 21, and the price where they are passed.
+// Questions 19, 28, 20 and 21, and the price where they are passed.
 pub fn price(batch: Batch, payoff: Payoff, draws: &[f64], observations: &mut [f64]) -> Priced
     requires { Ready batch }
     ensures { PricedOnceAsked batch payoff draws.now

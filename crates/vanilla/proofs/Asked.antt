@@ -32,7 +32,7 @@ module _ (i : VanillaInputs) (lent : List Float) where
   abbrev earlier : List Question
   earlier = model_questions i.given ++ terms_questions i.order.terms
 
-  -- 19 to 21, over a schedule
+  -- 19, 28, 20 and 21, over a schedule
   abbrev sizes : Simulation → Outcome
   sizes s =
       first_no
@@ -85,7 +85,7 @@ module _ (i : VanillaInputs) (lent : List Float) where
         m.ready.in_use
 
     module _ (e : first_no (terms_questions i.order.terms) ≡ passed) where
-      -- all questions come to what 19 to 21 come to
+      -- all questions come to what 19, 28, 20 and 21 come to
       sizes_is : sizes s ≡ first_no (vanilla_questions i (length lent))
       unfolding vanilla_questions path_questions
       sizes_is =

@@ -60,7 +60,7 @@ pub record Ready (b : Handed) : Type 0 where
   pub laid : Laid b.simulation.grid
   pub form : factors_read b.observation ≤ b.simulation.kernel.n
 
--- 19 to 21, and the price where they are passed
+-- 19, 28, 20 and 21, and the price where they are passed
 abbrev pub PricedOnceAsked :
     Handed → Payoff → List Float → List Float → List Float → Priced → Type 0
 PricedOnceAsked b payoff draws lent after r =

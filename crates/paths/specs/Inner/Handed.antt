@@ -21,8 +21,8 @@ use Rattle.paths.specs.declared.Walked.{Walked}
 use Rattle.paths.specs.declared.Refused.{Refused}
 use Rattle.paths.specs.Run.{RunStop, run_stop, steps_at, refusal_at, table_after}
 
--- 19 to 21, and what the questions leave: an admitted simulation, a schedule laid end to end, and a
--- form in no more factors than there are
+-- what 19, 28, 20 and 21 leave, and the questions before them: an admitted simulation, a schedule
+-- laid end to end, and a form in no more factors than there are
 pub record Prepared (b : Handed) (draws observations : List Float) : Type 0 where
   pub admitted : Admitted (simulation_in_use b.simulation)
   pub form : factors_read b.observation ≤ b.simulation.kernel.n
