@@ -8,7 +8,6 @@ use Rattle.numeric.specs.Double.{plus_zero}
 use Rattle.decimal.specs.Decimal.{value, is_negative, is_positive, scale_fits}
 use Rattle.refusal.specs.declared.Quantity.{Quantity}
 use Rattle.refusal.specs.declared.Quantity.TheVariants as quantity
-use Rattle.refusal.specs.declared.Refusal.TheVariants.{Pairs}
 use Rattle.refusal.specs.Questions.{Outcome, passed, first_no, each}
 use Rattle.refusal.specs.Refusal.{no_place}
 use Rattle.model.specs.Kernel.{in_range}
@@ -77,10 +76,6 @@ touched =
 abbrev pub mirrored : VanillaInputs
 mirrored = call_at100 one_step true 4 (half ∷ quarter ∷ [])
 
--- one pair alone
-abbrev pub one_pair : VanillaInputs
-one_pair = call_at100 one_step true 2 (half ∷ [])
-
 -- a future on the VIX, with a = 0 and the window of P12
 abbrev pub vix : VixBatchInputs
 vix =
@@ -139,11 +134,6 @@ pub mirrored_admitted : vanilla_asked mirrored ≡ passed
 unfolding vanilla_asked
 mirrored_admitted = refl
 
--- one pair alone does not
-pub one_pair_refused : vanilla_asked one_pair ≡ Err Pairs
-unfolding vanilla_asked
-one_pair_refused = refl
-
 pub vix_admitted : vix_asked vix ≡ passed
 unfolding vix_asked
 vix_admitted = refl
@@ -187,10 +177,6 @@ abbrev pub price_of_mirrored : BatchAnswer
 price_of_mirrored =
     priced_at (value (decimal 1875 2)) (value (decimal 625 2)) (value (decimal 100 0)) plus_zero
     (4 ∷ 0 ∷ []) 4
-
-pub mirrored_report : report mirrored ≡ price_of_mirrored
-unfolding report_of start_of grid_of value round of_bits
-mirrored_report = refl
 
 -- both paths touch the barrier, path 1 ends above it, as path 2 does, and the put pays nothing
 pub touched_ends_above :

@@ -1,7 +1,7 @@
--- Rule 19.1: the figures P1 to P12, as the outer calls answer them, as one list with one theorem.
--- They are proved here and nowhere else. Every double, given or expected, stands by its bits, so
--- that no figure rests on the conversion that it checks.
-use Rattle.std.specs.Prelude.{◌≡◌, ℕ, false, refl, Float}
+-- Rules 19.1 and 19.4: the figures P1 to P12 and the mirrored ones, as the outer calls answer them,
+-- as one list with one theorem. They are proved here and nowhere else. Every double, given or
+-- expected, stands by its bits, so that no figure rests on the conversion that it checks.
+use Rattle.std.specs.Prelude.{◌≡◌, ℕ, Bool, true, false, refl, Float}
 use Rattle.std.specs.Prelude.{List, [], ◌∷◌, ◌++◌, length, replicate, get_or}
 use Rattle.std.specs.Float.{nan, binary64}
 use Rattle.std.specs.Float.Ieee.{of_bits, round}
@@ -64,11 +64,11 @@ stepped draw =
     (after t.spots ∷ after t.factors ∷ after t.z ∷ after t.variances ∷ [])
     (a.steps ∷ [])
 
--- a call at 100 over two paths of one step
-abbrev pub priced : List Float → Figure
-priced draws =
-    let i = call_at100 one_step false 2 draws in
-    let asked = first_no (vanilla_questions i (length (lent 2))) in
+-- a call at 100 over paths of one step, mirrored or not
+abbrev pub priced : Bool → ℕ → List Float → Figure
+priced mirrored paths draws =
+    let i = call_at100 one_step mirrored paths draws in
+    let asked = first_no (vanilla_questions i (length (lent paths))) in
     let b = vanilla_batch i in
     let a = answer_of b (priced_once_asked asked b (vanilla_payoff i)) in
     figure a.number a.place a.doubles (a.counts ++ (a.steps ∷ []))
@@ -105,11 +105,14 @@ answered =
     -- 0.5; -1; both; 0.5 and infinity
     ∷ stepped (bits 0x3FE0000000000000)
     ∷ stepped (bits 0xBFF0000000000000)
-    ∷ priced (bits 0x3FE0000000000000 ∷ bits 0xBFF0000000000000 ∷ [])
-    ∷ priced (bits 0x3FE0000000000000 ∷ bits 0x7FF0000000000000 ∷ [])
+    ∷ priced false 2 (bits 0x3FE0000000000000 ∷ bits 0xBFF0000000000000 ∷ [])
+    ∷ priced false 2 (bits 0x3FE0000000000000 ∷ bits 0x7FF0000000000000 ∷ [])
     -- [0 1; 0 0]
     ∷ powered (bits 0 ∷ bits 0x3FF0000000000000 ∷ bits 0 ∷ bits 0 ∷ [])
     ∷ evaluated (decimal 25 2)
+    -- mirrored: 0.5 and 0.25; 0.5 alone
+    ∷ priced true 4 (bits 0x3FE0000000000000 ∷ bits 0x3FD0000000000000 ∷ [])
+    ∷ priced true 2 (bits 0x3FE0000000000000 ∷ [])
     ∷ []
 
 abbrev pub expected : List Figure
@@ -152,6 +155,12 @@ expected =
     (1 ∷ [])
     -- P12: VIX squared 40000, index 200
     ∷ figure 0 no_place (bits 0x40E3880000000000 ∷ bits 0x4069000000000000 ∷ []) []
+    -- mirrored: price 18.75 and error 6.25, spot 100 and error 0, 4 paths, none of them
+    -- non-positive, 4 steps; one pair alone: 28
+    ∷ figure 0 no_place
+    (bits 0x4032C00000000000 ∷ bits 0x4019000000000000 ∷ bits 0x4059000000000000 ∷ bits 0 ∷ [])
+    (4 ∷ 0 ∷ 4 ∷ [])
+    ∷ figure 28 no_place (bits 0 ∷ bits 0 ∷ bits 0 ∷ bits 0 ∷ []) (0 ∷ 0 ∷ 0 ∷ [])
     ∷ []
 
 pub figures : answered ≡ expected
