@@ -185,7 +185,7 @@ module _ (m : Given) (k : Kernel) (tables : KernelPrepared m.weights m.discounts
       abbrev over : Simulation
       over = record { kernel = k; params = x.params; start = x.start; grid = grid }
 
-      admitted : Admitted (simulation_in_use over)
+      pub admitted : Admitted (simulation_in_use over)
       admitted =
           record {
             few = tables.ready.few;

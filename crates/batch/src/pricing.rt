@@ -101,14 +101,14 @@ fn price_admitted(batch: &Batch, payoff: Payoff, draws: &[f64], observations: &m
 }
 
 // Questions 19, 28, 20 and 21, and the price where they are passed.
-pub fn price(batch: Batch, payoff: Payoff, draws: &[f64], observations: &mut [f64]) -> Priced
-    requires { Ready batch }
-    ensures { PricedOnceAsked batch payoff draws.now
+pub fn price(batch: &Batch, payoff: Payoff, draws: &[f64], observations: &mut [f64]) -> Priced
+    requires { Ready batch.now }
+    ensures { PricedOnceAsked batch.now payoff draws.now
         observations.old observations.new result }
 {
     let grid = batch.simulation.grid;
     let drawn = draws.len();
     let lent = observations.len();
     questions::batch_questions(grid, batch.mirrored, batch.paths, drawn, lent)?;
-    price_admitted(&batch, payoff, draws, observations)
+    price_admitted(batch, payoff, draws, observations)
 }

@@ -19,7 +19,7 @@ fn start(dim: usize, factor: f64, value: &mut [f64], argument: &mut [f64])
     ensures value { value.new ≡ identity dim }
 {
     entries::scale(factor, value);
-    argument.copy_from_slice(value);
+    entries::copy(value, argument);
     value.fill(0.0);
     entries::add_diagonal(dim, value);
 }
@@ -30,7 +30,7 @@ fn step(dim: usize, degree: u32, argument: &[f64], value: &mut [f64], spare: &mu
     ensures { value.new ≡ horner_step dim argument.now degree value.old }
 {
     product::multiply(dim, argument, value, spare);
-    value.copy_from_slice(spare);
+    entries::copy(spare, value);
     entries::scale(1.0 / (degree as f64), value);
     entries::add_diagonal(dim, value);
 }
@@ -54,7 +54,7 @@ fn square(dim: usize, squarings: u32, value: &mut [f64], spare: &mut [f64])
 {
     for _ in 0..squarings {
         product::multiply(dim, value, value, spare);
-        value.copy_from_slice(spare);
+        entries::copy(spare, value);
     }
 }
 

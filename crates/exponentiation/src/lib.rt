@@ -7,6 +7,7 @@ ghost use Rattle.exponentiation.specs.Call.{shape_right, sizes_asked};
 ghost use Rattle.exponentiation.specs.Inner.Answer.{answer_of};
 ghost use Rattle.exponentiation.specs.Call.{matrix_inputs, ExponentialAnswered};
 
+use matrix::entries;
 use refusal::{Outcome, Refusal};
 
 // The answer as it crosses the edge (qrh_exponentiation in include/qrh.h): how often the scaled
@@ -72,9 +73,9 @@ fn exponentiated(
 {
     size_questions(dim, input.len(), output.len(), work.len())?;
     let size = dim * dim;
-    work[..size].copy_from_slice(input);
+    entries::copy(input, &mut work[..size]);
     let squarings = exponential::exponential(dim, work).ok_or(Refusal::Exponential)?;
-    output.copy_from_slice(&work[..size]);
+    entries::copy(&work[..size], output);
     Ok(squarings)
 }
 

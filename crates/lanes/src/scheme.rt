@@ -1,6 +1,6 @@
 // One step of the scheme in every lane. Kernel and parameters stay two arguments, as in the
 // definition, and that the rates are the kernel's is no fact of one type.
-ghost use Rattle.std.specs.Prelude.{◌≡◌, true, ℕ, ◌≤◌, ◌<◌, get_or};
+ghost use Rattle.std.specs.Prelude.{◌≡◌, true, false, ℕ, ◌≤◌, ◌<◌, get_or};
 ghost use Rattle.std.specs.Float.{nan};
 ghost use Rattle.numeric.specs.Double.{smaller};
 ghost use Rattle.model.specs.Step.{variance_at};
@@ -82,9 +82,9 @@ fn step_with(
 }
 
 // Every lane takes a step with guessed roots, which are asked after it, so that it does not wait
-// for the answer. Where they were not seen to be the roots, the answer is `false`, and nothing is
-// known of the lanes. (An `Option<Lanes>` is copied at each step: 701 instructions in the place of
-// 632.)
+// for the answer. Where they were not seen to be the roots, the answer is `false`, the lanes stay,
+// and nothing is known of the factors. (An `Option<Lanes>` is copied at each step: 701 instructions
+// in the place of 632.)
 pub fn try_step(
     k: Kernel,
     p: Params,
@@ -94,12 +94,16 @@ pub fn try_step(
     factors: &mut [[f64; 4]; 10],
 ) -> bool
     requires { RatesOf k rates.dt rates.sqrt_dt rates }
-    ensures { result ≡ true → (l : ℕ) → l < 4
+    ensures moved { result ≡ true → (l : ℕ) → l < 4
         → LaneSteps k p s.old g rates factors.old factors.new s.new l }
+    ensures kept { result ≡ false → s.new ≡ s.old }
 {
     let before = *s;
     let roots = roots::guesses(before);
     let next = step_with(roots, k, p, before, g, rates, factors);
+    if !roots::are_roots(before, roots) {
+        return false;
+    }
     *s = next;
-    roots::are_roots(before, roots)
+    true
 }

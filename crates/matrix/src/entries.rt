@@ -1,7 +1,18 @@
 // Passes over the entries of a matrix.
-ghost use Rattle.std.specs.Prelude.{◌≡◌};
+ghost use Rattle.std.specs.Prelude.{◌≡◌, length};
 ghost use Rattle.matrix.specs.Matrix.{scaled, plus_identity, all_finite};
 ghost use Rattle.matrix.specs.Inner.Workspace.{IsMatrix};
+
+// The entries of one matrix in the place of another's. (A loop: copy_from_slice calls memmove here,
+// which whoever links the archive for C would have to bring.)
+pub fn copy(from: &[f64], into: &mut [f64])
+    requires { length from.now ≡ length into.old }
+    ensures { into.new ≡ from.now }
+{
+    for k in 0..from.len() {
+        into[k] = from[k];
+    }
+}
 
 // Whether every entry is finite.
 pub fn is_finite(m: &[f64]) -> bool

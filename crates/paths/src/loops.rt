@@ -107,7 +107,7 @@ pub fn run_paths(
                 break 'paths;
             }
             if step == grid.last[segment] {
-                observations[path * count + segment] = walks::observe(batch.observation, s);
+                observations[path * count + segment] = walks::observe(&batch.observation, s);
                 // Counted on: a loop over segments around that over steps would state the
                 // invariant of a path twice.
                 segment += 1;

@@ -32,9 +32,12 @@ pub(crate) fn cases(alloc: Global, file: &[u8]) -> Result<Vec<Case<'_>>, Fault> 
 }
 
 impl<'a> Case<'a> {
+    // The call is the word after the number of words: of a case of none, that of the next case.
     fn read(file: &mut Reader<'a>) -> Result<Case<'a>, Fault> {
         let mut words = file.list()?;
-        let call = Call::try_from(words.word()?)?;
+        let mut next = *file;
+        let call = words.word().or(next.word())?;
+        let call = Call::try_from(call)?;
         Ok(Case { call, words })
     }
 
@@ -110,22 +113,30 @@ mod tests {
     use std::num::f64_to_bits_with_nan;
     use std::test::Fail;
 
-    // A file of one case: the square root of 4.
-    fn file_with(alloc: Global, root: f64) -> Result<Vec<u8>, AllocError> {
-        let mark = u64::from_le_bytes(MARK);
-        let four = f64_to_bits_with_nan(4.0);
-        let root = f64_to_bits_with_nan(root);
-        let words = [mark, 1, 8, 2, four, 0, 0, 0, 0, 0, root];
+    // A file of these words after its mark.
+    fn file_of(alloc: Global, words: &[u64]) -> Result<Vec<u8>, AllocError> {
         let mut file = Vec::new(alloc);
+        file.extend_from_slice(&MARK)?;
         for word in words {
             file.extend_from_slice(&word.to_le_bytes())?;
         }
         Ok(file)
     }
 
-    fn report(alloc: Global, file: &[u8]) -> Result<String, Fail> {
+    // A file of one case: the square root of 4.
+    fn file_with(alloc: Global, root: f64) -> Result<Vec<u8>, AllocError> {
+        let four = f64_to_bits_with_nan(4.0);
+        let root = f64_to_bits_with_nan(root);
+        file_of(alloc, &[1, 8, 2, four, 0, 0, 0, 0, 0, root])
+    }
+
+    fn report_of(alloc: Global, file: &[u8], call: Call) -> Result<String, Fail> {
         let cases = cases(alloc, file)?;
-        Ok(Tally::of(alloc, &cases, Call::SquareRoot)?.to_string(alloc)?)
+        Ok(Tally::of(alloc, &cases, call)?.to_string(alloc)?)
+    }
+
+    fn report(alloc: Global, file: &[u8]) -> Result<String, Fail> {
+        report_of(alloc, file, Call::SquareRoot)
     }
 
     #[test]
@@ -146,6 +157,41 @@ mod tests {
             let part = cases(rt.alloc(), &file[..length]);
             assert!(rt; matches!(part, Err(Fault::Damaged)), "at {length}");
         }
+        Ok(())
+    }
+
+    // It can be no record, and takes its call from the case behind it.
+    #[test]
+    fn a_case_of_no_words_differs(rt: HostRuntime) -> Result<(), Fail> {
+        let file = file_of(rt.alloc(), &[2, 0, 2, 1, 0])?;
+        let text = report(rt.alloc(), &file)?;
+        assert_eq!(rt; text.as_str(), "1 cases, 1 differ, the first is case 1");
+        Ok(())
+    }
+
+    // An exponential of dimension 1, refused by 16: its workspace of 22,447 is lent empty.
+    #[test]
+    fn a_workspace_too_long_is_lent_empty(rt: HostRuntime) -> Result<(), Fail> {
+        let case = [1, 14, 8, 1, 1, 0, 1, 22_447, 16, 0, 0, 0, 0, 0, 0, 1];
+        let file = file_of(rt.alloc(), &case)?;
+        let text = report_of(rt.alloc(), &file, Call::Exponential)?;
+        assert_eq!(rt; text.as_str(), "1 cases, none differs");
+        Ok(())
+    }
+
+    // One of dimension 0, refused by 26: its output is lent empty, and is recorded with what a first
+    // entry would be lent as, or with another.
+    #[test]
+    fn a_record_goes_on_as_lent(rt: HostRuntime) -> Result<(), Fail> {
+        let as_lent = 0x4000_1000_0000_0000;
+        let case = [1, 14, 8, 0, 0, 0, 0, 26, 0, 0, 0, 0, 0, 1, as_lent, 1];
+        let file = file_of(rt.alloc(), &case)?;
+        let text = report_of(rt.alloc(), &file, Call::Exponential)?;
+        assert_eq!(rt; text.as_str(), "1 cases, none differs");
+        let case = [1, 14, 8, 0, 0, 0, 0, 26, 0, 0, 0, 0, 0, 1, as_lent + 1, 1];
+        let file = file_of(rt.alloc(), &case)?;
+        let text = report_of(rt.alloc(), &file, Call::Exponential)?;
+        assert_eq!(rt; text.as_str(), "1 cases, 1 differ, the first is case 1");
         Ok(())
     }
 }

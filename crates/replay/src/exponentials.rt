@@ -9,7 +9,7 @@ pub(crate) fn replay(case: &mut Reader<'_>, alloc: Global) -> Result<(), Fault> 
     let dimension = case.size()?;
     let input = case.doubles(alloc)?;
     let mut output = Table::lent(case, alloc, 1)?;
-    let mut workspace = Table::lent(case, alloc, 2)?;
+    let mut workspace = Table::workspace(case, alloc, 2)?;
     let answer = qrh::qrh_exponential(dimension, &input, output.entries(), workspace.entries());
     head(case, answer.number, answer.place)?;
     counts(case, &[answer.squarings])?;

@@ -47,9 +47,12 @@ fn report(rt: &(impl Print + AllocGlobal), cases: &[Case<'_>]) -> io::Result<()>
     Ok(())
 }
 
+// The most bytes that are read of a file.
+const MOST_BYTES: u64 = 1_048_576;
+
 fn main(rt: HostRuntime) -> io::Result<()> {
     let mut file = Vec::new(rt.alloc());
-    rt.stdin().read_to_end(&mut file)?;
+    rt.stdin().take(MOST_BYTES).read_to_end(&mut file)?;
     match cases::cases(rt.alloc(), &file) {
         Ok(cases) => report(&rt, &cases),
         Err(Fault::OutOfMemory(error)) => Err(io::Error::from(error)),

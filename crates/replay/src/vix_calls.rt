@@ -11,7 +11,7 @@ pub(crate) fn evaluation(case: &mut Reader<'_>, alloc: Global) -> Result<(), Fau
     let given = Modelled::read(case, alloc)?;
     let window = decimal(case)?;
     let factors = factors(case)?;
-    let mut workspace = Table::lent(case, alloc, 1)?;
+    let mut workspace = Table::workspace(case, alloc, 1)?;
     let answer = qrh::qrh_vix(
         &given.weights,
         &given.discounts,
@@ -48,7 +48,7 @@ pub(crate) fn batch(case: &mut Reader<'_>, alloc: Global) -> Result<(), Fault> {
         paths,
     };
     let draws = case.doubles(alloc)?;
-    let mut workspace = Table::lent(case, alloc, 1)?;
+    let mut workspace = Table::workspace(case, alloc, 1)?;
     let mut observations = Table::lent(case, alloc, 2)?;
     let answer = qrh::qrh_vix_batch(
         &given.over(schedule),

@@ -135,7 +135,12 @@ pub fn trace(
     };
     match admitted(given, draws.len(), lent) {
         Ok(simulation) => Tracing::from(walk::walk(
-            simulation, draws, spots, variances, z, factors,
+            &simulation,
+            draws,
+            spots,
+            variances,
+            z,
+            factors,
         )),
         Err(refusal) => refused(refusal, 0),
     }

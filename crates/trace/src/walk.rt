@@ -49,22 +49,22 @@ fn write_point(
 
 // Each point is written, up to the first step that is not finite. Answers the steps taken.
 pub fn walk(
-    simulation: Simulation,
+    simulation: &Simulation,
     draws: &[f64],
     spots: &mut [f64],
     variances: &mut [f64],
     z: &mut [f64],
     factors: &mut [f64],
 ) -> Result<u64, Stopped>
-    requires le_n { 1 ≤ simulation.kernel.n }
-    requires laid { Laid simulation.grid }
-    requires draws_len { length draws.now ≡ simulation.grid.total }
-    requires sized { Sized simulation.grid.total simulation.kernel.n
+    requires le_n { 1 ≤ simulation.now.kernel.n }
+    requires laid { Laid simulation.now.grid }
+    requires draws_len { length draws.now ≡ simulation.now.grid.total }
+    requires sized { Sized simulation.now.grid.total simulation.now.kernel.n
         (tables spots.old variances.old z.old factors.old) }
     ensures answer { result
-        ≡ trace_answer (trace_walk (simulation_in_use simulation) draws.now) }
+        ≡ trace_answer (trace_walk (simulation_in_use simulation.now) draws.now) }
     ensures tables { tables spots.new variances.new z.new factors.new
-        ≡ tables_after (trace_walk (simulation_in_use simulation) draws.now)
+        ≡ tables_after (trace_walk (simulation_in_use simulation.now) draws.now)
         (tables spots.old variances.old z.old factors.old) }
 {
     let kernel = simulation.kernel;

@@ -120,7 +120,7 @@ fn priced(given: &Given, order: Order, draws: &[f64], observations: &mut [f64]) 
         mirrored: order.mirrored,
         paths: order.paths,
     };
-    pricing::price(batch, terms_payoff(order.terms), draws, observations)
+    pricing::price(&batch, terms_payoff(order.terms), draws, observations)
 }
 
 // A row of observations a path, a column a segment.

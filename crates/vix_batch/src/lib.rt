@@ -128,7 +128,7 @@ fn priced(
         mirrored: false,
         paths: order.paths,
     };
-    pricing::price(batch, payoff_of(order.payoff), draws, observations)
+    pricing::price(&batch, payoff_of(order.payoff), draws, observations)
 }
 
 // A row of raw VIX squared a path, a column a segment.

@@ -45,8 +45,8 @@ pub struct Draws<'a> {
 
 impl Observation {
     // The kind alone. (No `From`: the name says which part of it is kept.)
-    pub fn observed(self) -> Observed
-        ensures { result ≡ observed_of self }
+    pub fn observed(&self) -> Observed
+        ensures { result ≡ observed_of self.now }
     {
         match self {
             Observation::Spot => Observed::Spot,
@@ -86,11 +86,12 @@ impl<'a> Draws<'a> {
     }
 }
 
-pub fn observe(observation: Observation, s: State) -> f64
-    ensures { result ≡ observe_by observation (state_in_use (factors_read observation) s) }
+pub fn observe(observation: &Observation, s: State) -> f64
+    ensures { result ≡ observe_by observation.now
+        (state_in_use (factors_read observation.now) s) }
 {
     match observation {
         Observation::Spot => s.spot,
-        Observation::VixSquared(form) => vix::raw_squared(form, s.factors),
+        Observation::VixSquared(form) => vix::raw_squared(*form, s.factors),
     }
 }

@@ -36,62 +36,62 @@ overflow_mul-size c =
     let sizes = sized c.args.dim _ _ _ (sym c.in_ok-size_questions.ensures) in
     omega (arith, small sizes.shape.most)
 
-pub slice_bounds-copy_from_slice-end : goal.slice_bounds-copy_from_slice-end
-slice_bounds-copy_from_slice-end c =
+pub slice_bounds-copy-end : goal.slice_bounds-copy-end
+slice_bounds-copy-end c =
     let sizes = sized c.args.dim _ _ _ (sym c.in_ok-size_questions.ensures) in
     omega (arith, sizes.room)
 
-pub slice_bounds-copy_from_slice-end-2 : goal.slice_bounds-copy_from_slice-end-2
-slice_bounds-copy_from_slice-end-2 c =
+pub slice_bounds-copy-end-2 : goal.slice_bounds-copy-end-2
+slice_bounds-copy-end-2 c =
     long_front _ _ (sized c.args.dim _ _ _ (sym c.in_ok-size_questions.ensures)).room
 
-pub copy_from_slice-requires : goal.copy_from_slice-requires
-copy_from_slice-requires c =
+pub copy-requires : goal.copy-requires
+copy-requires c =
     let sizes = sized c.args.dim _ _ _ (sym c.in_ok-size_questions.ensures) in
-    sym (long_front _ _ sizes.room) ∙ sym sizes.shape.input_is
+    sizes.shape.input_is ∙ long_front _ _ sizes.room
 
 pub exponential-requires : goal.exponential-requires
 exponential-requires c =
     let sizes = sized c.args.dim _ _ _ (sym c.in_ok-size_questions.ensures) in
-    (sizes.shape.most, long_put _ _ _ sizes.room c.copy_from_slice.ensures.len)
+    (sizes.shape.most, long_put _ _ _ sizes.room c.copy.auto.into)
 
 pub returns-in_err-squarings : goal.returns-in_err-squarings
 returns-in_err-squarings c =
     let i = matrix_inputs c.args.dim c.args.input.now c.args.output.now c.args.work.now in
     let told = sym c.in_ok-size_questions.ensures in
     let sizes = sized c.args.dim _ _ _ told in
-    let kept = input_kept _ _ _ c.args.work.now c.copy_from_slice.ensures.after sizes.shape.input_is in
+    let kept = input_kept _ _ _ c.args.work.now c.copy.ensures sizes.shape.input_is in
     let way = none_by c.exponential.result Exponential _ (sym c.ok_or.ensures.value ∙ c.in_err-squarings.was) in
     rw (exits _ _ c.from_residual-in_err-squarings.ensures.1, way.1)
     (not_finite i told _ (way.0 ∙ c.exponential.ensures.answer ∙ ap (exponentiated c.args.dim) kept))
 
-pub slice_bounds-copy_from_slice-end-3 : goal.slice_bounds-copy_from_slice-end-3
-slice_bounds-copy_from_slice-end-3 c =
+pub slice_bounds-copy-end-3 : goal.slice_bounds-copy-end-3
+slice_bounds-copy-end-3 c =
     let sizes = sized c.args.dim _ _ _ (sym c.in_ok-size_questions.ensures) in
-    let put = long_put c.args.dim _ _ sizes.room c.copy_from_slice.ensures.len in
+    let put = long_put c.args.dim _ _ sizes.room c.copy.auto.into in
     omega (arith, put, c.exponential.auto.work)
 
-pub slice_bounds-copy_from_slice-end-4 : goal.slice_bounds-copy_from_slice-end-4
-slice_bounds-copy_from_slice-end-4 c =
+pub slice_bounds-copy-end-4 : goal.slice_bounds-copy-end-4
+slice_bounds-copy-end-4 c =
     let sizes = sized c.args.dim _ _ _ (sym c.in_ok-size_questions.ensures) in
-    long_front _ _ (c.exponential.auto.work ∙ long_put _ _ _ sizes.room c.copy_from_slice.ensures.len)
+    long_front _ _ (c.exponential.auto.work ∙ long_put _ _ _ sizes.room c.copy.auto.into)
 
-pub copy_from_slice-requires-2 : goal.copy_from_slice-requires-2
-copy_from_slice-requires-2 c =
+pub copy-requires-2 : goal.copy-requires-2
+copy-requires-2 c =
     let sizes = sized c.args.dim _ _ _ (sym c.in_ok-size_questions.ensures) in
-    sizes.shape.output_is
-    ∙ long_front _ _ (c.exponential.auto.work ∙ long_put _ _ _ sizes.room c.copy_from_slice.ensures.len)
+    sym (long_front _ _ (c.exponential.auto.work ∙ long_put _ _ _ sizes.room c.copy.auto.into))
+    ∙ sym sizes.shape.output_is
 
 pub returns : goal.returns
 returns c =
     let i = matrix_inputs c.args.dim c.args.input.now c.args.output.now c.args.work.now in
     let told = sym c.in_ok-size_questions.ensures in
     let sizes = sized c.args.dim _ _ _ told in
-    let kept = input_kept _ _ _ c.args.work.now c.copy_from_slice.ensures.after sizes.shape.input_is in
+    let kept = input_kept _ _ _ c.args.work.now c.copy.ensures sizes.shape.input_is in
     let way = some_by c.exponential.result Exponential _ (sym c.ok_or.ensures.value ∙ c.in_ok-squarings.was) in
     let holds = rw (sym way) at c.exponential.ensures.result in
     let fewest = rw (sym way) at c.exponential.ensures.least in
     done i told _ c.in_ok-squarings.squarings _
     (way ∙ c.exponential.ensures.answer ∙ ap (exponentiated c.args.dim) kept)
-    (c.copy_from_slice-2.ensures.after ∙ holds ∙ ap (exponential c.args.dim) kept)
+    (c.copy-2.ensures ∙ holds ∙ ap (exponential c.args.dim) kept)
     (subst (λ (a : List Float). IsLeast (norm1 c.args.dim a) c.in_ok-squarings.squarings) kept fewest)

@@ -84,7 +84,7 @@ loop-at-preserved c =
     let within = within_at laid (c.loop-at.invariant.0 0) c.loop-at-test.true in
     let steps = λ (l : ℕ) (h : l < 4).
     step_in_use m.grid c.requires.laid _ _ (c.loop-at.invariant.0 0).reached within m.kernel c.loop-at.rates c.loop-at.invariant.1 _ _ _ _ _ _ (c.draws_at-g.ensures l h)
-    (c.try_step.ensures c.if-not-try_step.false l h) in
+    (c.try_step.ensures.moved c.if-not-try_step.false l h) in
     elim c.if-at-sched.branch [
       | then-at-sched w ↦
           rw (w.segment-is, w.rows-is, w.rates-is) (

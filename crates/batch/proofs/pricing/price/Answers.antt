@@ -12,7 +12,7 @@ returns-in_err-batch_questions c =
 
 pub price_admitted-requires : goal.price_admitted-requires
 price_admitted-requires c =
-    prepared c.args.batch c.args.draws.now _ c.requires (sym c.in_ok-batch_questions.ensures)
+    prepared c.args.batch.now c.args.draws.now _ c.requires (sym c.in_ok-batch_questions.ensures)
 
 pub returns : goal.returns
 returns c = priced_answered (sym c.in_ok-batch_questions.ensures) c.price_admitted.ensures

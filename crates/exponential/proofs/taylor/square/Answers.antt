@@ -10,4 +10,4 @@ loop-init c = refl
 pub loop-preserved : goal.loop-preserved
 loop-preserved c =
     squared_more _ _ _ _ _ c.loop.invariant
-    (c.copy_from_slice.ensures.after ∙ c.multiply.ensures)
+    (c.copy.ensures ∙ c.multiply.ensures)

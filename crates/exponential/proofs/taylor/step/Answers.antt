@@ -9,4 +9,4 @@ unfolding horner_step of_bits
 returns c =
     c.add_diagonal.ensures
     ∙ ap (plus_identity c.args.dim)
-    (c.scale.ensures ∙ ap (scaled _) (c.copy_from_slice.ensures.after ∙ c.multiply.ensures))
+    (c.scale.ensures ∙ ap (scaled _) (c.copy.ensures ∙ c.multiply.ensures))

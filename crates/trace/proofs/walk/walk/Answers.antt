@@ -81,13 +81,13 @@ loop-at-preserved c =
 pub returns-clause-answer : goal.returns-clause-answer
 returns-clause-answer c =
     let known = prepared c.requires.le_n c.requires.laid c.requires.sized in
-    let end : c.loop-at.at ≡ c.args.simulation.grid.total = omega arith in
+    let end : c.loop-at.at ≡ c.args.simulation.now.grid.total = omega arith in
     done_answer _ _ _ known c.loop-at.invariant end
 
 pub returns-clause-tables : goal.returns-clause-tables
 returns-clause-tables c =
     let known = prepared c.requires.le_n c.requires.laid c.requires.sized in
     let now = c.loop-at.invariant in
-    let end : c.loop-at.at ≡ c.args.simulation.grid.total = omega arith in
+    let end : c.loop-at.at ≡ c.args.simulation.now.grid.total = omega arith in
     let written = point_written _ _ _ known now _ (rw end (rw (size_of c.kernel.view_is) at c.write_point-2.ensures)) c.write_point-2.auto.factors in
     done_tables _ _ _ known now _ end written
