@@ -179,8 +179,8 @@ mod tests {
         Ok(())
     }
 
-    // One of dimension 0, refused by 26: its output is lent empty, and is recorded with what a first
-    // entry would be lent as, or with another.
+    // One of dimension 0, refused by 26: its output is lent empty, and is recorded with what a
+    // first entry would be lent as, or with another.
     #[test]
     fn a_record_goes_on_as_lent(rt: HostRuntime) -> Result<(), Fail> {
         let as_lent = 0x4000_1000_0000_0000;

@@ -1,10 +1,12 @@
 // The tables that a call is lent.
+ghost use Rattle.std.specs.Prelude.{◌≤◌, IfOk, vec_len};
+
 use crate::fault::Fault;
 use crate::words::{MOST, Reader, same};
 use std::alloc::Global;
 use std::num::f64_from_bits_with_nan;
 
-// The longest workspace of a recorded call.
+// The longest workspace of a record.
 const MOST_WORKSPACE: usize = 22_446;
 
 // A table, counted from 1 in the order of the call's parameters, and what it holds.
@@ -43,7 +45,9 @@ impl Table {
         case: &mut Reader<'_>,
         alloc: Global,
         number: u64,
-    ) -> Result<Table, Fault> {
+    ) -> Result<Table, Fault>
+        ensures { IfOk result (λ table. vec_len table.entries ≤ most) }
+    {
         let length = case.size()?;
         let length = if length <= most { length } else { 0 };
         let entries = (0..length as u64).map(|i| lent(number, i)).collect(alloc)?;

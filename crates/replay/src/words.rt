@@ -1,13 +1,13 @@
 // A file of recorded cases (oracle/README.md) is a list of 64-bit words, each of 8 bytes, the
 // lowest first.
-ghost use Rattle.std.specs.Prelude.{◌≡◌, ◌↔◌, [], ◌∷◌, ◌+◌, length, IsTrue, IsOk, IfOk};
+ghost use Rattle.std.specs.Prelude.{◌≡◌, ◌↔◌, [], ◌∷◌, ◌+◌, ◌≤◌, length, IsTrue, IsOk, IfOk};
 ghost use Rattle.replay.specs.Words.{Read};
 
 use crate::fault::Fault;
 use std::alloc::Global;
 use std::num::{f64_from_bits_with_nan, f64_to_bits_with_nan};
 
-// The longest list or table of a recorded call, a workspace apart.
+// The longest list or table of a record, a workspace apart (oracle/README.md).
 pub(crate) const MOST: usize = 1_024;
 
 // The words that are still to be read, of a file or of a case in it.
@@ -27,7 +27,9 @@ impl<'a> Reader<'a> {
         }
     }
 
-    pub(crate) fn empty() -> Reader<'a> {
+    pub(crate) fn empty() -> Reader<'a>
+        ensures { result.rest.now ≡ [] }
+    {
         Reader { rest: &[] }
     }
 
@@ -80,7 +82,9 @@ impl<'a> Reader<'a> {
     }
 
     // The words of a list, or none where they are more than any call is recorded with.
-    pub(crate) fn short_list(&mut self) -> Result<Reader<'a>, Fault> {
+    pub(crate) fn short_list(&mut self) -> Result<Reader<'a>, Fault>
+        ensures { IfOk result (λ list. length list.rest.now ≤ 1024) }
+    {
         let list = self.list()?;
         if list.rest.len() <= MOST {
             Ok(list)
