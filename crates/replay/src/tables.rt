@@ -26,7 +26,9 @@ fn lent(number: u64, i: u64) -> f64 {
 
 impl Table {
     // A table as it is before the call, as long as the next word says.
-    pub(crate) fn lent(case: &mut Reader<'_>, alloc: Global, number: u64) -> Result<Table, Fault> {
+    pub(crate) fn lent(case: &mut Reader<'_>, alloc: Global, number: u64) -> Result<Table, Fault>
+        ensures { IfOk result (λ table. vec_len table.entries ≤ 1024) }
+    {
         Table::of_at_most(MOST, case, alloc, number)
     }
 
@@ -35,7 +37,9 @@ impl Table {
         case: &mut Reader<'_>,
         alloc: Global,
         number: u64,
-    ) -> Result<Table, Fault> {
+    ) -> Result<Table, Fault>
+        ensures { IfOk result (λ table. vec_len table.entries ≤ 22446) }
+    {
         Table::of_at_most(MOST_WORKSPACE, case, alloc, number)
     }
 

@@ -1,6 +1,6 @@
 // A file of recorded cases (oracle/README.md) is a list of 64-bit words, each of 8 bytes, the
 // lowest first.
-ghost use Rattle.std.specs.Prelude.{◌≡◌, ◌↔◌, [], ◌∷◌, ◌+◌, ◌≤◌, length, IsTrue, IsOk, IfOk};
+ghost use Rattle.std.specs.Prelude.{◌≡◌, ◌↔◌, [], ◌∷◌, ◌+◌, ◌≤◌, length, vec_len, IsTrue, IsOk, IfOk};
 ghost use Rattle.replay.specs.Words.{Read};
 
 use crate::fault::Fault;
@@ -94,7 +94,9 @@ impl<'a> Reader<'a> {
     }
 
     // A list of doubles.
-    pub(crate) fn doubles(&mut self, alloc: Global) -> Result<Vec<f64>, Fault> {
+    pub(crate) fn doubles(&mut self, alloc: Global) -> Result<Vec<f64>, Fault>
+        ensures { IfOk result (λ doubles. vec_len doubles ≤ 1024) }
+    {
         let list = self.short_list()?.rest.iter();
         let doubles = list.map(|bytes| f64_from_bits_with_nan(u64::from_le_bytes(*bytes)));
         Ok(doubles.collect(alloc)?)
